@@ -1,0 +1,17 @@
+mod Numerals
+mod ValueForms
+mod ValueRows
+mod ValueFunctions
+mod ValueTable
+mod Forms
+mod Sums
+mod AllRules
+mod Rows
+mod Orders
+mod Defaults
+mod PartNames
+mod SmallerParts
+mod Guards
+mod SmallerNests
+mod Openings
+mod Structural

@@ -1,0 +1,6 @@
+pub mod NumeralLaws
+pub mod NamedLaws
+pub mod Laws
+pub mod Nests
+pub mod Openings
+pub mod Structural

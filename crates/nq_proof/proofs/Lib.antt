@@ -1,0 +1,17 @@
+pub mod Tests
+pub mod TermTests
+pub mod Numbers
+pub mod Places
+pub mod AxiomRows
+pub mod ShellSymbols
+pub mod AcceptedShells
+pub mod ValueSymbols
+pub mod KeptSymbols
+pub mod SoundRules
+pub mod SoundLogs
+pub mod Monotone
+pub mod Classes
+pub mod Renumbered
+pub mod CalledTerms
+pub mod Examples
+pub mod ByLaw

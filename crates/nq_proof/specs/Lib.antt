@@ -1,0 +1,9 @@
+pub mod Clauses
+pub mod Paths
+pub mod Values
+pub mod Linear
+pub mod Rows
+pub mod Rules
+pub mod Closed
+pub mod Logs
+pub mod Laws
