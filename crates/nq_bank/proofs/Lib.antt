@@ -1,0 +1,15 @@
+pub mod Texts
+pub mod Numerals
+pub mod CallLemmas
+pub mod NodesLemmas
+pub mod Renaming
+pub mod HeldLemmas
+pub mod Placing
+pub mod Naming
+pub mod Growth
+pub mod Releasing
+pub mod ArgumentLemmas
+pub mod GroundLemmas
+pub mod SoundLemmas
+pub mod Standing
+pub mod DeepLemmas

@@ -1,0 +1,12 @@
+pub mod GroundNames
+pub mod Parts
+pub mod TermCode
+pub mod Content
+pub mod Heads
+pub mod Soundness
+pub mod Marks
+pub mod Nodes
+pub mod Held
+pub mod Texts
+pub mod Faults
+pub mod Shells

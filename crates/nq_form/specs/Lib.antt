@@ -1,0 +1,10 @@
+pub mod Form
+pub mod Bytes
+pub mod Token
+pub mod Blank
+pub mod Grammar
+pub mod Spelling
+pub mod Kinds
+pub mod Machine
+pub mod Examples
+pub mod Widths

@@ -1,0 +1,6 @@
+pub mod Cuts
+pub mod Numbers
+pub mod Runs
+pub mod Constituents
+pub mod FieldLaws
+pub mod LineLaws
