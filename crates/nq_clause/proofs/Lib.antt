@@ -1,0 +1,4 @@
+pub mod Lookups
+pub mod OccurrenceLemmas
+pub mod SubstitutionLemmas
+pub mod InstanceLemmas
