@@ -1,0 +1,13 @@
+pub mod Sizes
+pub mod States
+pub mod Fields
+pub mod TermLines
+pub mod RuleLines
+pub mod ClosingLines
+pub mod Logs
+pub mod Laws
+pub mod Blocks
+pub mod Growing
+pub mod Stage
+pub mod Streams
+pub mod Readers

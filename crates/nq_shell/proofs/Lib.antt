@@ -1,0 +1,5 @@
+pub mod Acceptance
+pub mod DraftLemmas
+pub mod DeepLiterals
+pub mod RowLemmas
+pub mod AxiomRows

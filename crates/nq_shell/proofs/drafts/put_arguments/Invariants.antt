@@ -1,0 +1,16 @@
+-- The arguments that are left, put on the stack, make what all make.
+use Rattle.std.proofs.Common.{◌≡◌, drop}
+use Rattle.std.specs.Prelude.{All}
+use Rattle.nq_logic.specs.Terms.{Function}
+use Rattle.nq_bank.specs.Content.{text_at}
+use Rattle.nq_bank.specs.Shells.{parts_at}
+use Rattle.nq_steps.specs.Steps.{pushed, stack_of, StepStands}
+use Rattle.nq_shell.specs.Drafts.{variables_with}
+use Rattle.nq_shell.proofs.drafts.put_arguments.Given as goal
+
+abbrev pub invariant-loop-k : goal.invariant-loop-k
+invariant-loop-k l =
+    record {
+      stand : All (StepStands l.bank) l.steps.items;
+      makes : pushed (variables_with l.k l.place (Function (text_at l.bank l.default)) (parts_at l.bank (drop l.k l.parts))) (stack_of l.bank l.steps.items) ≡ pushed (variables_with 0 l.place (Function (text_at l.bank l.default)) (parts_at l.bank l.parts)) (stack_of l.bank l.fn.steps.items);
+    }

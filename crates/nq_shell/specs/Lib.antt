@@ -1,0 +1,4 @@
+pub mod Admission
+pub mod Rows
+pub mod Drafts
+pub mod Axioms
