@@ -1,0 +1,76 @@
+-- The commentary: the lines of reports, and the closing lines.
+use Rattle.std.specs.Prelude.{◌+◌, ◌==◌, if◌then◌else◌, ℕ, List, [], ◌∷◌, ◌++◌, Option, Some, None, codes}
+use Rattle.std.specs.List.{flat_map}
+use Rattle.std.specs.Fmt.{decimal}
+use Rattle.nq_comment.specs.Reports.{Answer, Accepted, Proved, Refused, Quick, Taut, Report}
+use Rattle.nq_comment.specs.Totals.{Totals, totals_of}
+use Rattle.nq_form.specs.Grammar.{Ending, done, fault, too_long}
+
+-- the pieces one after another
+abbrev pub joined : List (List ℕ) → List ℕ
+joined = flat_map (λ piece. piece)
+
+abbrev pub shown_word : Option (List ℕ) → List ℕ
+shown_word (Some word) = word
+shown_word None = codes "?"
+
+abbrev pub shown_name : Option (List ℕ) → List ℕ
+shown_name (Some name) = joined (codes " " ∷ name ∷ [])
+shown_name None = []
+
+abbrev pub quick_word : Quick → List ℕ
+quick_word Taut = codes "TAUT"
+
+-- the words of a refusal, each after one space, and the end of its line
+abbrev pub refusal_words : List (List ℕ) → List (List ℕ)
+refusal_words [] = codes ".\n" ∷ []
+refusal_words (word ∷ words) = codes " " ∷ word ∷ refusal_words words
+
+abbrev pub answer_lines : Answer → List ℕ
+answer_lines Accepted = codes "   Accepted.\n"
+answer_lines (Proved quick) = joined (codes "   By " ∷ quick_word quick ∷ codes ".\n   Proved.\n" ∷ [])
+answer_lines (Refused code words) = joined (codes "   Refused " ∷ decimal code ∷ refusal_words words)
+
+-- the header and the lines of one report
+abbrev pub lines_of_report : ℕ → Report → List ℕ
+lines_of_report number report =
+    joined (decimal number ∷ codes ". " ∷ shown_word report.word ∷ shown_name report.name ∷ codes "\n" ∷ answer_lines report.answer ∷ [])
+
+-- the lines of reports, the first of this number
+abbrev pub lines_from : ℕ → List Report → List ℕ
+lines_from number [] = []
+lines_from number (report ∷ reports) = lines_of_report number report ++ lines_from (number + 1) reports
+
+-- the lines of all reports of a run, without the closing lines
+abbrev pub report_lines : List Report → List ℕ
+report_lines = lines_from 1
+
+-- what is wrong with the spelling, by the code of the fault: from 1 to 4
+abbrev pub fault_words : ℕ → List ℕ
+fault_words code = if code == 1 then codes "unbalanced"
+    else if code == 2 then codes "bad token"
+    else if code == 3 then codes "numeral too wide"
+    else if code == 4 then codes "too deep"
+    else []
+
+abbrev pub fault_line : Ending → List ℕ
+fault_line done = []
+fault_line too_long = []
+fault_line (fault code offset) = joined (codes "Syntax fault " ∷ decimal code ∷ codes " at byte " ∷ decimal offset
+    ∷ codes ": " ∷ fault_words code ∷ codes ".\n" ∷ [])
+
+-- the last line, of these numbers in digits
+abbrev pub summary_by : List ℕ → List ℕ → List ℕ → List ℕ → List ℕ → List ℕ
+summary_by forms accepted refused failed skipped = joined (codes "Forms " ∷ forms ∷ codes ", accepted " ∷ accepted
+    ∷ codes ", refused " ∷ refused ∷ codes ", failed " ∷ failed ∷ codes ", skipped " ∷ skipped ∷ codes ".\n" ∷ [])
+
+abbrev pub summary : Totals → List ℕ
+summary t = summary_by (decimal t.forms) (decimal t.accepted) (decimal t.refused) (decimal t.failed) (decimal t.skipped)
+
+-- the closing lines after forms that were answered so
+abbrev pub closing_lines : Ending → Totals → List ℕ
+closing_lines ending totals = fault_line ending ++ summary totals
+
+-- the whole text of a run that came to the end of its file, or to a fault of its spelling
+abbrev pub rendering : List Report → Ending → List ℕ
+rendering reports ending = report_lines reports ++ closing_lines ending (totals_of reports)

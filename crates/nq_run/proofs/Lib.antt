@@ -1,0 +1,5 @@
+pub mod Elements
+pub mod NameLemmas
+pub mod TakingLemmas
+pub mod Deriving
+pub mod RunLemmas

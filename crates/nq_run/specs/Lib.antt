@@ -1,0 +1,9 @@
+pub mod Events
+pub mod Headers
+pub mod EventViews
+pub mod HistoryView
+pub mod Steps
+pub mod Taking
+pub mod Derived
+pub mod Outcome
+pub mod RunFaults

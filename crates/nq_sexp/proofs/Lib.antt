@@ -1,0 +1,10 @@
+pub mod Trees
+pub mod Digits
+pub mod Buffer
+pub mod Stacks
+pub mod TokenKinds
+pub mod Reading
+pub mod Growing
+pub mod Readying
+pub mod Parsing
+pub mod Whole

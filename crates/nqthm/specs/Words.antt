@@ -1,0 +1,39 @@
+-- Which command the words ask for.
+use Rattle.std.specs.Prelude.{◌≤◌, ℕ, List, [], ◌∷◌, Option, Some, None, codes, if◌then◌else◌}
+use Rattle.std.specs.Option.{option_and_then, option_map_or}
+use Rattle.std.specs.Str.{bytes_eq}
+use Rattle.std.specs.Str.Parse.{digits_value, without_leading_plus}
+use Rattle.clap.specs.ValueTests.{is_unsigned_in}
+use Rattle.clap.specs.Words.{Row, Text, Kinds, fault_of, first_of, subcommand_of}
+use Rattle.nqthm.specs.Line.{command_line}
+use Rattle.nqthm.specs.declared.words.Command.{Command}
+use Rattle.nqthm.specs.declared.words.Command.TheVariants.{Run}
+
+-- a number of steps as Rust reads a number of 64 bits, with a plus before it or none: from one to fifty million
+abbrev pub steps_of : Text → Option ℕ
+steps_of text = if is_unsigned_in 1 50000000 text
+    then Some (digits_value 10 (without_leading_plus text)) else None
+
+-- two million where no number is given
+abbrev pub steps_at : List Row → Option ℕ
+steps_at rows = option_map_or steps_of (first_of (codes "steps") rows) (Some 2000000)
+
+abbrev pub asked_by : Text → List Row → Option Command
+asked_by name rows = if bytes_eq name (codes "run") then option_and_then (λ n. Some (Run n)) (steps_at rows) else None
+
+abbrev pub if_faultless : {A : Type 0} → Kinds → Option A → Option A
+if_faultless [] value = value
+if_faultless (k ∷ ks) value = None
+
+-- the command that the words ask for, the program's name among them; none where `clap` doesn't take them, or the
+-- number of steps is out of range
+abbrev pub command_of : List Text → Option Command
+command_of words = if_faultless (fault_of command_line words)
+    (option_and_then (λ p. asked_by p.0 p.1) (subcommand_of command_line words))
+
+-- the number of steps that a command gives each event
+abbrev pub limit_of : Command → ℕ
+limit_of (Run steps) = steps
+
+abbrev pub IsStepLimit : ℕ → Type 0
+IsStepLimit steps = (1 ≤ steps) × (steps ≤ 50000000)
