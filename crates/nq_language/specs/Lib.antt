@@ -1,0 +1,10 @@
+pub mod Arities
+pub mod Abbreviations
+pub mod Objects
+pub mod Translation
+pub mod Limits
+pub mod Refusals
+pub mod Scopes
+pub mod Depths
+pub mod Quotations
+pub mod Printing
