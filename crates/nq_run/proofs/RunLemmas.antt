@@ -16,6 +16,8 @@ use Rattle.nq_comment.specs.Text.{closing_lines, lines_from, lines_of_report, re
 use Rattle.nq_comment.specs.Totals.{Totals, totals_of, with_kind, with_report}
 use Rattle.nq_comment.specs.declared.kind.Kind.{Kind}
 use Rattle.nq_comment.specs.declared.kind.Kind.TheVariants as kind
+use Rattle.nq_comment.specs.ReportViews.{ending_of}
+use Rattle.nq_comment.specs.declared.report.SyntaxFault.{SyntaxFault}
 use Rattle.nq_run.specs.Outcome.{Begun, CutOff, Finished, GrowsWithin, Halted, Interrupted, Ran, Stopped, Turned, TurnStopped}
 use Rattle.nq_run.specs.Steps.{Runs, Step, after}
 use Rattle.nq_run.proofs.Deriving.{reported}
@@ -172,16 +174,16 @@ Ran-finished left ending forms history t a b c ran reads closes = record {
   text = Appends-trans a b c _ _ ran.text (subst (λ (u : Totals). Appends b c (closing_lines ending u)) ran.counted closes);
 }
 
-pub Ran-cut : (left : Option (List ℕ)) (ending : Ending) (forms : Forms) (history : History) (t : Totals) (a b c : Option (List ℕ)) → Ran forms history t a b
-    → IfSome left (λ text. Reads 500 (2 ^ 25) text forms ending)
-    → GrowsWithin b c (closing_lines ending t) → CutOff left a c
-Ran-cut left ending forms history t a b c ran reads closes = record {
+pub Ran-cut : (left : Option (List ℕ)) (fault : Option SyntaxFault) (forms : Forms) (history : History) (t : Totals) (a b c : Option (List ℕ)) → Ran forms history t a b
+    → IfSome left (λ text. Reads 500 (2 ^ 25) text forms (ending_of fault))
+    → GrowsWithin b c (closing_lines (ending_of fault) t) → CutOff left a c
+Ran-cut left fault forms history t a b c ran reads closes = record {
   forms = forms;
-  ending = ending;
+  fault = fault;
   reads = reads;
   reports = ran.reports;
   reported = reported forms ran.reports history ran.runs;
-  text = within_after a b c _ _ ran.text (subst (λ (u : Totals). GrowsWithin b c (closing_lines ending u)) ran.counted closes);
+  text = within_after a b c _ _ ran.text (subst (λ (u : Totals). GrowsWithin b c (closing_lines (ending_of fault) u)) ran.counted closes);
 }
 
 pub Ran-halted : (start left : Option (List ℕ)) (fault : ReadFault) (forms : Forms) (history : History) (t : Totals) (a b : Option (List ℕ)) → Ran forms history t a b

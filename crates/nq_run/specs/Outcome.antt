@@ -9,6 +9,7 @@ use Rattle.nq_sexp.specs.Whole.{IsEnding}
 use Rattle.nq_sexp.specs.declared.fault.ReadFault.{ReadFault}
 use Rattle.nq_comment.specs.Reports.{Report}
 use Rattle.nq_comment.specs.Text.{lines_of_report, rendering, report_lines}
+use Rattle.nq_comment.specs.ReportViews.{ending_of}
 use Rattle.nq_comment.specs.Totals.{Totals, totals_of, unsuccessful, with_report}
 use Rattle.nq_comment.specs.declared.report.SyntaxFault.{SyntaxFault}
 use Rattle.nq_run.specs.Derived.{Reported}
@@ -84,14 +85,15 @@ pub record Interrupted (left : Option (List ℕ)) (held now : Option (List ℕ))
   pub reported : Reported forms reports
   pub text : GrowsWithin held now (report_lines reports)
 
--- all forms were run, and the sink gained a front part of the whole commentary
+-- All forms were run, to the end of the text or to a fault of its spelling, and the sink gained a front part of the whole
+-- commentary.
 pub record CutOff (left : Option (List ℕ)) (held now : Option (List ℕ)) : Type 0 where
   pub forms : Forms
-  pub ending : Ending
-  pub reads : IfSome left (λ text. Reads 500 (2 ^ 25) text forms ending)
+  pub fault : Option SyntaxFault
+  pub reads : IfSome left (λ text. Reads 500 (2 ^ 25) text forms (ending_of fault))
   pub reports : List Report
   pub reported : Reported forms reports
-  pub text : GrowsWithin held now (rendering reports ending)
+  pub text : GrowsWithin held now (rendering reports (ending_of fault))
 
 abbrev pub Stopped : Option (List ℕ) → Option (List ℕ) → Option (List ℕ) → Type 0
 Stopped left held now = Interrupted left held now ⊎ CutOff left held now

@@ -162,7 +162,15 @@ fn run_forms<S: Source, O: Sink>(
                 });
             }
         }
-        let _ = arena.reset();
+        arena = cleared(alloc, arena);
+    }
+}
+
+/// The arena without its forms; a new one takes its place where it can't be reset.
+fn cleared(alloc: Global, mut arena: Bump) -> Bump {
+    match arena.reset() {
+        Ok(()) => arena,
+        Err(_) => Bump::new(alloc),
     }
 }
 

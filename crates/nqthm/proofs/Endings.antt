@@ -1,6 +1,7 @@
 -- The ending of a text tells which statuses its run may have.
-use Rattle.std.proofs.Common.{inl, inr, ◌≡◌, ◌^◌, ℕ, Bool, true, false, List, [], Option, subst, refl, arith, if◌then◌else◌}
+use Rattle.std.proofs.Common.{sym, append-nil, inl, inr, ◌≡◌, ◌^◌, ℕ, Bool, true, false, List, [], Option, subst, refl, arith, if◌then◌else◌}
 use Rattle.std.specs.Prelude.{◌⊎◌, ◌==◌, IfSome, Some, None}
+use Rattle.std.specs.Io.KnownBytes.{Appends}
 use Rattle.std.proofs.KnownBytes.{Appends-nil}
 use Rattle.nq_form.specs.Form.{Forms, end}
 use Rattle.nq_form.specs.Grammar.{Ending, Reads, done, fault, none, too_long}
@@ -9,7 +10,7 @@ use Rattle.nq_run.proofs.Deriving.{reported}
 use Rattle.nq_comment.specs.Totals.{Totals, unsuccessful}
 use Rattle.nq_comment.specs.ReportViews.{ending_of}
 use Rattle.nq_comment.specs.declared.report.SyntaxFault.{SyntaxFault}
-use Rattle.nq_run.specs.Outcome.{Begun, Halted, Stopped, status_of}
+use Rattle.nq_run.specs.Outcome.{Begun, GrowsWithin, Halted, Stopped, status_of}
 use Rattle.nq_run.specs.RunFaults.{fault_status}
 use Rattle.nq_run.specs.declared.runs.RunFault.{RunFault}
 use Rattle.nq_run.specs.declared.runs.RunFault.TheVariants.{Read, Write, TooLong, Memory}
@@ -73,3 +74,10 @@ untouched_stopped left held = inl (record {
     nothing_begun : (left : Option (List ℕ)) → IfSome left (λ text. Begun text end)
     nothing_begun None = tt
     nothing_begun (Some text) = record { front = []; rest = text; whole = refl; spelled = none; seam = inl refl }
+
+-- the whole of a text was written, or nothing of it
+pub within_whole : (a b : Option (List ℕ)) (text : List ℕ) → Appends a b text → GrowsWithin a b text
+within_whole a b text appends = record { front = text; rest = []; whole = sym (append-nil text); appends = appends }
+
+pub within_none : (a : Option (List ℕ)) (text : List ℕ) → GrowsWithin a a text
+within_none a text = record { front = []; rest = text; whole = refl; appends = Appends-nil a }

@@ -12,7 +12,7 @@ ghost use Rattle.nq_form.specs.Form.{Forms};
 ghost use Rattle.nq_form.specs.Grammar.{Ending, Reads, done, fault};
 ghost use Rattle.nq_comment.specs.Reports.{Report};
 ghost use Rattle.nq_comment.specs.Totals.{totals_of, unsuccessful};
-ghost use Rattle.nq_run.specs.Outcome.{Finished, Halted, Stopped};
+ghost use Rattle.nq_run.specs.Outcome.{Finished, GrowsWithin, Halted, Stopped};
 ghost use Rattle.nq_sexp.specs.declared.fault.ReadFault.TheVariants.{FileTooLong, Read};
 ghost use Rattle.nqthm.specs.Statuses.{IsStatusOf};
 ghost use Rattle.nqthm.specs.Words.{command_of};
@@ -51,7 +51,7 @@ const NO_MEMORY: u8 = 6;
 ///
 /// In `Finished`, `Halted` and `Stopped` each lemma reported as proved is derivable in the history
 /// before it.
-#[tactic(auto, using(crate::proofs::Endings::untouched_stopped))]
+#[tactic(auto, using(crate::proofs::Endings::untouched_stopped, crate::proofs::Endings::within_none))]
 pub fn nqthm<S: Source, O: Sink, E: Sink>(
     alloc: Global,
     words: Vec<String>,
@@ -60,13 +60,15 @@ pub fn nqthm<S: Source, O: Sink, E: Sink>(
     side: &mut E,
 ) -> u8
     // Where the words are not those of a command, nothing is read and nothing is written to `out`,
-    // and the whole usage line is written to `side`, unless that fails.
+    // and the whole usage line is written to `side`, or a front part of it where that fails.
     ensures refused_words { result ≡ 2 → command_of (map string_bytes words.items) ≡ None }
     ensures words { command_of (map string_bytes words.items) ≡ None → (result ≡ 2)
         ⊎ ((result ≡ 5) × Rose (E.faults side.old) (E.faults side.new)) ⊎ (result ≡ 6) }
     ensures untouched { command_of (map string_bytes words.items) ≡ None
         → (src.new ≡ src.old) × (out.new ≡ out.old) }
     ensures usage { result ≡ 2 → Appends (E.written side.old) (E.written side.new) USAGE.now }
+    ensures front { command_of (map string_bytes words.items) ≡ None
+        → GrowsWithin (E.written side.old) (E.written side.new) USAGE.now }
     ensures side { IsSome (command_of (map string_bytes words.items)) → side.new ≡ side.old }
 
     // The whole commentary was written.
@@ -110,7 +112,9 @@ pub fn nqthm<S: Source, O: Sink, E: Sink>(
 }
 
 // Writes the usage line, and gives the status.
+#[tactic(auto, using(crate::proofs::Endings::within_whole, nq_run::proofs::RunLemmas::within_part))]
 fn refuse_words<E: Sink>(side: &mut E) -> u8
+    ensures front { GrowsWithin (E.written side.old) (E.written side.new) USAGE.now }
     ensures usage { result ≡ 2 → Appends (E.written side.old) (E.written side.new) USAGE.now }
     ensures status { (result ≡ 2)
         ⊎ ((result ≡ 5) × Rose (E.faults side.old) (E.faults side.new)) ⊎ (result ≡ 6) }

@@ -44,7 +44,7 @@ returns-in-Ok-clause-stopped g c =
     let reads : IfSome left (λ text. Reads 500 (2 ^ 25) text forms ending) =
     if_some_weaker left _ _ (λ text stop. c.in-Ok.ensures.reads text forms (g.S.Source.left c.run_forms.new.src) stop) walked.3 in
     on_err_weaker c.finish.result _ _
-    (λ grows. inr (Ran-cut left ending forms walked.1.0 (totals_in c.in_ok-walked.walked.counts) held before now walked.1.1 reads grows)) c.finish.ensures.err
+    (λ grows. inr (Ran-cut left c.in-Ok.fault forms walked.1.0 (totals_in c.in_ok-walked.walked.counts) held before now walked.1.1 reads grows)) c.finish.ensures.err
 
 pub returns-in-Err-clause-read : goal.returns-in-Err-clause-read
 returns-in-Err-clause-read g c e =
