@@ -17,8 +17,8 @@ fn clause_in_table(
     bank: &mut Bank,
     earlier: &[Shell],
     shell: &Shell,
-    row: u32,
-    i: u32,
+    row: u64,
+    i: u64,
 ) -> Result<Option<Clause>, BankFault>
     requires earlier { All (ShellStands bank.old) earlier.now }
     requires shell { ShellStands bank.old shell.now }
@@ -65,5 +65,5 @@ pub fn shell_axiom(
     ensures deep { result ≡ Err BankFault.Deep → HasDeepLiteral (shell_clause_at (shells_at bank.old earlier.now) (shell_at bank.old shell.now) i (shell_row row)) }
     ensures shallow { OnOk result (HasDeepLiteral (shell_clause_at (shells_at bank.old earlier.now) (shell_at bank.old shell.now) i (shell_row row)) → ⊥) }
 {
-    clause_in_table(bank, earlier, shell, row, i)
+    clause_in_table(bank, earlier, shell, row as u64, i as u64)
 }

@@ -17,7 +17,7 @@ pub fn part_of_made(
     steps: &mut Vec<Step>,
     earlier: &[Shell],
     shell: &Shell,
-    i: u32,
+    i: u64,
 ) -> Result<bool, AllocError>
     requires steps { steps.old.items ≡ [] }
     requires earlier { All (ShellStands bank.now) earlier.now }
@@ -43,7 +43,7 @@ pub fn wrong_part_of_made(
     steps: &mut Vec<Step>,
     earlier: &[Shell],
     shell: &Shell,
-    i: u32,
+    i: u64,
 ) -> Result<bool, AllocError>
     requires steps { steps.old.items ≡ [] }
     requires earlier { All (ShellStands bank.now) earlier.now }
@@ -69,7 +69,7 @@ pub fn part_of_other(
     steps: &mut Vec<Step>,
     earlier: &[Shell],
     shell: &Shell,
-    i: u32,
+    i: u64,
 ) -> Result<bool, AllocError>
     requires steps { steps.old.items ≡ [] }
     requires earlier { All (ShellStands bank.now) earlier.now }
@@ -117,7 +117,7 @@ pub fn part_of_base(
     steps: &mut Vec<Step>,
     earlier: &[Shell],
     shell: &Shell,
-    i: u32,
+    i: u64,
 ) -> Result<bool, AllocError>
     requires steps { steps.old.items ≡ [] }
     requires earlier { All (ShellStands bank.now) earlier.now }
@@ -140,7 +140,7 @@ pub fn wrong_part(
     steps: &mut Vec<Step>,
     earlier: &[Shell],
     shell: &Shell,
-    i: u32,
+    i: u64,
 ) -> Result<bool, AllocError>
     requires steps { steps.old.items ≡ [] }
     requires earlier { All (ShellStands bank.now) earlier.now }
@@ -166,7 +166,7 @@ pub fn kinds_differ(
     steps: &mut Vec<Step>,
     earlier: &[Shell],
     shell: &Shell,
-    i: u32,
+    i: u64,
 ) -> Result<bool, AllocError>
     requires steps { steps.old.items ≡ [] }
     requires earlier { All (ShellStands bank.now) earlier.now }

@@ -17,7 +17,7 @@ fn recognizer_is_truth_value(
     steps: &mut Vec<Step>,
     earlier: &[Shell],
     shell: &Shell,
-    i: u32,
+    i: u64,
 ) -> Result<bool, AllocError>
     requires steps { steps.old.items ≡ [] }
     requires earlier { All (ShellStands bank.now) earlier.now }
@@ -37,7 +37,7 @@ fn made_is_recognized(
     steps: &mut Vec<Step>,
     earlier: &[Shell],
     shell: &Shell,
-    i: u32,
+    i: u64,
 ) -> Result<bool, AllocError>
     requires steps { steps.old.items ≡ [] }
     requires earlier { All (ShellStands bank.now) earlier.now }
@@ -57,7 +57,7 @@ fn base_is_recognized(
     steps: &mut Vec<Step>,
     earlier: &[Shell],
     shell: &Shell,
-    i: u32,
+    i: u64,
 ) -> Result<bool, AllocError>
     requires steps { steps.old.items ≡ [] }
     requires earlier { All (ShellStands bank.now) earlier.now }
@@ -82,7 +82,7 @@ fn made_is_no_base(
     steps: &mut Vec<Step>,
     earlier: &[Shell],
     shell: &Shell,
-    i: u32,
+    i: u64,
 ) -> Result<bool, AllocError>
     requires steps { steps.old.items ≡ [] }
     requires earlier { All (ShellStands bank.now) earlier.now }
@@ -107,7 +107,7 @@ fn remade_is_same(
     steps: &mut Vec<Step>,
     earlier: &[Shell],
     shell: &Shell,
-    i: u32,
+    i: u64,
 ) -> Result<bool, AllocError>
     requires steps { steps.old.items ≡ [] }
     requires earlier { All (ShellStands bank.now) earlier.now }
@@ -127,7 +127,7 @@ fn truth_is_none(
     steps: &mut Vec<Step>,
     earlier: &[Shell],
     shell: &Shell,
-    i: u32,
+    i: u64,
 ) -> Result<bool, AllocError>
     requires steps { steps.old.items ≡ [] }
     requires earlier { All (ShellStands bank.now) earlier.now }
@@ -147,7 +147,7 @@ fn falsity_is_none(
     steps: &mut Vec<Step>,
     earlier: &[Shell],
     shell: &Shell,
-    i: u32,
+    i: u64,
 ) -> Result<bool, AllocError>
     requires steps { steps.old.items ≡ [] }
     requires earlier { All (ShellStands bank.now) earlier.now }
@@ -167,7 +167,7 @@ fn size_of_made(
     steps: &mut Vec<Step>,
     earlier: &[Shell],
     shell: &Shell,
-    i: u32,
+    i: u64,
 ) -> Result<bool, AllocError>
     requires steps { steps.old.items ≡ [] }
     requires earlier { All (ShellStands bank.now) earlier.now }
@@ -187,7 +187,7 @@ fn size_of_base(
     steps: &mut Vec<Step>,
     earlier: &[Shell],
     shell: &Shell,
-    i: u32,
+    i: u64,
 ) -> Result<bool, AllocError>
     requires steps { steps.old.items ≡ [] }
     requires earlier { All (ShellStands bank.now) earlier.now }
@@ -213,8 +213,8 @@ pub fn put_row(
     steps: &mut Vec<Step>,
     earlier: &[Shell],
     shell: &Shell,
-    row: u32,
-    i: u32,
+    row: u64,
+    i: u64,
 ) -> Result<bool, AllocError>
     requires steps { steps.old.items ≡ [] }
     requires earlier { All (ShellStands bank.now) earlier.now }

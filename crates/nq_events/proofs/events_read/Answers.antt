@@ -1,0 +1,32 @@
+use Rattle.std.proofs.Common.{refl}
+use Rattle.nq_logic.specs.Ground.{symbols_of}
+use Rattle.nq_logic.specs.Words.{numeral}
+use Rattle.nq_logic.specs.Numerals.{number_of}
+use Rattle.nq_logic.specs.Sizes.{tree_size, tree_depth}
+use Rattle.nq_logic.specs.Values.{is_tree_value}
+use Rattle.nq_form.specs.Machine.{run}
+use Rattle.nq_language.specs.Abbreviations.{word_of, word_in}
+use Rattle.nq_language.specs.Objects.{value}
+use Rattle.nq_language.specs.Translation.{translated}
+use Rattle.nq_language.specs.Refusals.{met, translation}
+use Rattle.nq_events.specs.Outlines.{outline}
+use Rattle.nq_events.specs.Reading.{event_refusal, event_of}
+use Rattle.nq_events.specs.OwnRefusals.{own_refusal}
+use Rattle.std.specs.Fmt.{digits}
+use Rattle.nq_events.proofs.events_read.Goals as goal
+
+pub returns : goal.returns
+unfolding digits symbols_of run word_of word_in translated value met translation number_of tree_size tree_depth is_tree_value numeral outline event_refusal event_of own_refusal
+returns c = record {
+  declared = refl;
+  defined = refl;
+  assumed = refl;
+  shell = refl;
+  lemma = refl;
+  disabled = refl;
+  enabled = refl;
+  empty_flag = refl;
+  made_up = refl;
+  numbered = refl;
+  undone = refl;
+}

@@ -1,0 +1,6 @@
+pub mod Lists
+pub mod ShellLemmas
+pub mod HistoryLemmas
+pub mod GroundLemmas
+pub mod LookupLemmas
+pub mod MarkingLemmas

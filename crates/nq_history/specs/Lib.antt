@@ -1,0 +1,4 @@
+pub mod Events
+pub mod GroundTable
+pub mod Lookups
+pub mod Marking

@@ -1,0 +1,28 @@
+//! The events of a run, in order, each with the shell, definition, term or toggle that it brought.
+//!
+//! A history begins with the ground history: TRUE, FALSE, EQUAL, IF and COUNT, four shells and twenty-nine definitions. A
+//! contract sees it as the list of its entries, over the ids of a bank. Over a bank, `all_events_at` gives all its events,
+//! and `events_at` those past the ground history, which is what the logic calls a history; `HistoryStands` says that its
+//! ids stand in the bank and that it begins with the ground history. `History::ground` gives exactly that.
+#![tactic(auto)]
+
+// what an event brings
+mod entry;
+
+// the ground history, as a table, and as entries
+mod ground_entries;
+mod ground_table;
+
+// names that are always in use, and what is looked for among entries
+mod lookup;
+mod reserved;
+
+// the events
+mod history;
+
+pub use entry::{Class, Entry, EntryKind};
+pub use history::{EVENT_LIMIT, GROUND_LENGTH, History, PushFault, UndoFault};
+pub use reserved::is_reserved;
+
+#[cfg(test)]
+mod tests;

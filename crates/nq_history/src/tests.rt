@@ -1,0 +1,71 @@
+ghost use Rattle.std.specs.Prelude.{◌≡◌, nat_lt, length};
+
+use super::*;
+use nq_bank::{Bank, Sym, ground, ground_name};
+use std::process::Abort;
+use std::test::Fail;
+
+fn has_name(bank: &Bank, s: Sym) -> bool
+    ensures { result ≡ nat_lt s.0 (length bank.now.names) }
+{
+    s.0 < bank.mark().names
+}
+
+#[test]
+fn the_ground_history_has_its_events(rt: HostRuntime) -> Result<(), Fail> {
+    let mut bank = Bank::new(rt.alloc())?;
+    let history = History::ground(&mut bank)?;
+    assert_eq!(rt; history.len(), 38);
+    assert!(rt; history.lookup(ground::PLUS).is_some());
+    assert!(rt; history.lookup(ground::NUMBERP).is_none());
+    Ok(())
+}
+
+#[test]
+fn names_in_use_are_told(rt: HostRuntime) -> Result<(), Fail> {
+    let mut bank = Bank::new(rt.alloc())?;
+    let free = bank.name(b"CAAXR")?;
+    let nest = bank.name(b"CADR")?;
+    let reserved = bank.name(b"QUOTE")?;
+    let history = History::ground(&mut bank)?;
+    assert!(rt; has_name(&bank, free) && has_name(&bank, nest) && has_name(&bank, reserved));
+    assert!(rt; !history.in_use(&bank, free));
+    assert!(rt; history.in_use(&bank, nest));
+    assert!(rt; history.in_use(&bank, reserved));
+    assert!(rt; history.in_use(&bank, ground_name(&bank, ground::NUMBERP)));
+    Ok(())
+}
+
+#[test]
+fn a_toggle_is_added(rt: HostRuntime) -> Result<(), Fail> {
+    let mut bank = Bank::new(rt.alloc())?;
+    let name = bank.name(b"PLUS-OFF")?;
+    let mut history = History::ground(&mut bank)?;
+    assert!(rt; has_name(&bank, name));
+    let old = ground_name(&bank, ground::PLUS);
+    let entry = Entry {
+        name,
+        kind: EntryKind::Toggle(old, true),
+        mark: bank.mark(),
+    };
+    assert_eq!(rt; history.push(&bank, entry), Ok(()));
+    assert_eq!(rt; history.len(), 39);
+    assert!(rt; !history.enabled(ground::PLUS));
+    assert!(rt; history.enabled(ground::TIMES));
+    Ok(())
+}
+
+#[test]
+fn a_name_in_use_is_refused(rt: HostRuntime) -> Result<(), Fail> {
+    let mut bank = Bank::new(rt.alloc())?;
+    let mut history = History::ground(&mut bank)?;
+    let old = ground_name(&bank, ground::PLUS);
+    let entry = Entry {
+        name: old,
+        kind: EntryKind::Toggle(old, true),
+        mark: bank.mark(),
+    };
+    assert_eq!(rt; history.push(&bank, entry), Err(PushFault::NameInUse));
+    assert!(rt; history.enabled(ground::PLUS));
+    Ok(())
+}

@@ -1,0 +1,22 @@
+use Rattle.std.proofs.Common.{◌∙◌, sym, ap, subst, Option}
+use Rattle.std.specs.Prelude.{IfOk, is_some}
+use Rattle.nq_proof.specs.Clauses.{Clause}
+use Rattle.nq_rule.specs.Branches.{branches_at}
+use Rattle.nq_rule.specs.Conclusions.{Concludes, IsDeep}
+use Rattle.nq_kernel.proofs.Concluding.{told, is_some-mapped, split_first_given}
+use Rattle.nq_kernel.proofs.log.Log.split_first.Goals as goal
+
+pub unwrap-parts-requires : goal.unwrap-parts-requires
+unwrap-parts-requires c = is_some-mapped (branches_at c.args.bank.now) c.branches_of.result ∙ ap is_some c.branches_of.ensures.parts ∙ c.requires.branches
+
+pub returns-clause-ok : goal.returns-clause-ok
+returns-clause-ok c =
+    let found = told (branches_at c.args.bank.now) c.branches_of.result c.unwrap-parts.result _ c.branches_of.ensures.parts c.unwrap-parts.ensures in
+    let P : Option Clause → Type 0 = λ o. IfOk c.first_branch_clause.result (λ v. Concludes c.first_branch_clause.new.bank v.items o) in
+    subst P (sym (split_first_given c.args.bank.now c.args.self.now c.args.line c.args.place c.clause_over-clause.result.now (branches_at c.args.bank.now c.unwrap-parts.result) c.clause_over-clause.ensures.clause found)) c.first_branch_clause.ensures.ok
+
+pub returns-clause-deep : goal.returns-clause-deep
+returns-clause-deep c =
+    λ e.
+    let found = told (branches_at c.args.bank.now) c.branches_of.result c.unwrap-parts.result _ c.branches_of.ensures.parts c.unwrap-parts.ensures in
+    subst IsDeep (sym (split_first_given c.args.bank.now c.args.self.now c.args.line c.args.place c.clause_over-clause.result.now (branches_at c.args.bank.now c.unwrap-parts.result) c.clause_over-clause.ensures.clause found)) (c.first_branch_clause.ensures.deep e)

@@ -1,0 +1,61 @@
+-- How the work of a prover grows.
+use Rattle.std.specs.Prelude.{◌≡◌, ◌≤◌, ◌<◌, ◌-◌, ℕ, true, unwrap_or, IsSome, [], List, Some, length, take, slice_get}
+use Rattle.nq_bank.specs.Content.{Content, Grows}
+use Rattle.nq_proof.specs.Clauses.{Clause}
+use Rattle.nq_kernel.specs.declared.rule.Line.{Line}
+use Rattle.nq_history.specs.declared.entry.Entry.{Entry}
+use Rattle.nq_kernel.specs.Counting.{Counting}
+use Rattle.nq_kernel.specs.declared.work.Work.{Work}
+use Rattle.nq_history.specs.Events.{HistoryStands}
+use Rattle.nq_kernel.specs.Meaning.{IsOver, RuleStands, clause_at, conclusion_at}
+use Rattle.nq_rule.specs.Conclusions.{Concludes}
+
+-- what the log and the history name stands in the bank
+pub record Fits (bank : Content) (entries : List Entry) (lines : List Line) : Type 0 where
+  pub log : IsOver bank lines
+  pub history : HistoryStands bank entries
+
+-- line k, counted from 0, has the clause that its rule gives after the lines before it
+pub record IsLegal (bank : Content) (history : List Entry) (log : List Line) (k : ℕ) : Type 0 where
+  pub line : Line
+  pub at : slice_get log k ≡ Some line
+  pub stands : line.stands ≡ true
+  pub rule : RuleStands bank line.rule
+  pub clause : Concludes bank line.clause.items (conclusion_at bank history (take k log) line.rule)
+
+-- lines that stood are as they were, and each new one is legal
+pub record LogGrows (bank : Content) (history : List Entry) (old new : List Line) : Type 0 where
+  pub kept : take (length old) new ≡ old
+  pub legal : (k : ℕ) → length old ≤ k → k < length new → IsLegal bank history new k
+
+-- steps are only added, and the limit stays
+pub record CountsUp (old new : Counting) : Type 0 where
+  pub used : old.used ≤ new.used
+  pub limit : new.limit ≡ old.limit
+
+-- what the log and the history name stands in the bank
+abbrev pub WorkStands : List Entry → Work → Type 0
+WorkStands history work = Fits work.bank history work.log
+
+-- terms and lines stay, new lines are legal, and steps are only added
+pub record WorkGrows (history : List Entry) (old new : Work) : Type 0 where
+  pub bank : Grows old.bank new.bank
+  pub log : LogGrows new.bank history old.log new.log
+  pub counter : CountsUp old.counter new.counter
+  pub stands : WorkStands history new
+
+-- line n, counted from 1, stands and has this clause
+abbrev pub LineHolds : Work → ℕ → Clause → Type 0
+LineHolds work n c = clause_at work.bank work.log n ≡ Some c
+
+-- line n stands
+abbrev pub LineStands : Work → ℕ → Type 0
+LineStands work n = IsSome (clause_at work.bank work.log n)
+
+-- the clause of a line that stands
+abbrev pub held : Work → ℕ → Clause
+held work n = unwrap_or (clause_at work.bank work.log n) []
+
+-- how many terms the bank got
+abbrev pub made_in : Work → Work → ℕ
+made_in old new = length new.bank.terms - length old.bank.terms

@@ -1,0 +1,12 @@
+pub mod ClauseLemmas
+pub mod LiteralLemmas
+pub mod Made
+pub mod PlacingLemmas
+pub mod InductionLemmas
+pub mod CuttingLemmas
+pub mod BranchLemmas
+pub mod InstanceLemmas
+pub mod PathLemmas
+pub mod ReplacingLemmas
+pub mod NameLemmas
+pub mod GrownLemmas

@@ -1,0 +1,10 @@
+-- The literals that are left decide.
+use Rattle.std.proofs.Common.{◌≡◌, drop, ◌∷◌, [], ◌++◌}
+use Rattle.nq_bank.specs.Content.{term_at, terms_at}
+use Rattle.nq_proof.specs.Clauses.{is_within}
+use Rattle.nq_proof.specs.Rules.{case_tests}
+use Rattle.nq_rule.specs.Inductions.{cases_at}
+use Rattle.nq_rule.proofs.induction.is_base_line.Given as goal
+
+abbrev pub invariant-loop-literal : goal.invariant-loop-literal
+invariant-loop-literal l = is_within (terms_at l.bank l.clause) (case_tests (cases_at l.bank l.cases) ++ (term_at l.bank l.claim ∷ [])) ≡ is_within (terms_at l.bank (drop l.literal-index l.clause)) (case_tests (cases_at l.bank l.cases) ++ (term_at l.bank l.claim ∷ []))
