@@ -57,16 +57,16 @@ pub record ShellsRefused : Type 0 where
 
 -- of axioms and lemmas that are to be rules
 pub record ClassesRefused : Type 0 where
-  pub rewrite : IsRefused [] "(PROVE-LEMMA R1 (REWRITE) (IMPLIES P P))" 50 ("NotRewrite" ∷ [])
-  pub elimination : IsRefused [] "(PROVE-LEMMA R1 (ELIM) (IMPLIES P P))" 51 ("NotElim" ∷ [])
-  pub generalize : IsRefused [] "(ADD-AXIOM R1 (GENERALIZE) (IMPLIES P P))" 52 ("NotGeneralize" ∷ [])
-  pub in_order : IsRefused [] "(PROVE-LEMMA R1 (ELIM REWRITE) (IMPLIES P P))" 51 ("NotElim" ∷ [])
+  pub rewrite : IsRefused [] "(PROVE-LEMMA RULE1 (REWRITE) (IMPLIES P P))" 50 ("NotRewrite" ∷ [])
+  pub elimination : IsRefused [] "(PROVE-LEMMA RULE1 (ELIM) (IMPLIES P P))" 51 ("NotElim" ∷ [])
+  pub generalize : IsRefused [] "(ADD-AXIOM RULE1 (GENERALIZE) (IMPLIES P P))" 52 ("NotGeneralize" ∷ [])
+  pub in_order : IsRefused [] "(PROVE-LEMMA RULE1 (ELIM REWRITE) (IMPLIES P P))" 51 ("NotElim" ∷ [])
   pub in_use : IsRefused [] "(PROVE-LEMMA PLUS (REWRITE) (IMPLIES P P))" 32 ("NameInUse" ∷ "PLUS" ∷ [])
-  pub none : IsAllowed [] "(PROVE-LEMMA R1 NIL (IMPLIES P P))"
+  pub none : IsAllowed [] "(PROVE-LEMMA RULE1 NIL (IMPLIES P P))"
   -- a numeral is a call, of ADD1 or of ZERO
-  pub of_numeral : IsAllowed [] "(PROVE-LEMMA R1 (GENERALIZE) (EQUAL X 0))"
+  pub of_numeral : IsAllowed [] "(PROVE-LEMMA RULE1 (GENERALIZE) (EQUAL X 0))"
   -- the left side may itself be the destructor call
-  pub destructor : IsAllowed [] "(PROVE-LEMMA R1 (ELIM) (EQUAL (FIX X) X))"
+  pub destructor : IsAllowed [] "(PROVE-LEMMA RULE1 (ELIM) (EQUAL (FIX X) X))"
 
 -- a definition, a declaration and a toggle; then the declaration is undone, and the names are free again
 abbrev pub undoing : Text

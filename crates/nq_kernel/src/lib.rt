@@ -33,3 +33,6 @@ pub use work::{Stop, Work};
 pub fn sound_line()
     ensures { SoundLine }
 {}
+
+#[cfg(test)]
+mod tests;
