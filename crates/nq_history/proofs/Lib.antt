@@ -4,3 +4,5 @@ pub mod HistoryLemmas
 pub mod GroundLemmas
 pub mod LookupLemmas
 pub mod MarkingLemmas
+pub mod FunctionLemmas
+pub mod IndexLemmas

@@ -1,4 +1,5 @@
 pub mod Events
+pub mod Functions
 pub mod GroundTable
 pub mod Lookups
 pub mod Marking

@@ -1,7 +1,7 @@
 //! The history: its entries in order, and what is asked of it.
 ghost use Rattle.std.specs.Prelude.{◌≡◌, ◌<◌, ◌≤◌, [], ◌∷◌, ◌++◌, length, take, true, slice_index_or, IfOk, OnErr, OnOk, IfSome, All, None};
 ghost use Rattle.std.specs.Option.{option_copied, option_map};
-ghost use Rattle.nq_logic.specs.Names.{before_event, is_enabled, is_in_use, looked_up};
+ghost use Rattle.nq_logic.specs.Names.{before_event, is_enabled, is_in_use, looked_up, symbol_names};
 ghost use Rattle.nq_bank.specs.Soundness.{IsSound};
 ghost use Rattle.nq_bank.specs.Marks.{CanRelease, released};
 ghost use Rattle.nq_history.specs.declared.entry.Entry.{Entry};
@@ -10,15 +10,19 @@ ghost use Rattle.nq_proof.specs.Rules.{event_term};
 ghost use Rattle.nq_history.specs.Events.{all_events_at, event_at, events_at, ground_length, past_ground, EntryStands, HistoryStands, kind_term};
 ghost use Rattle.nq_history.specs.Marking.{AreMarked, IsMarked};
 ghost use Rattle.nq_history.specs.Lookups.{enabled_in, entries_before, entry_named, push_fault, undo_answer, undo_fault, IsAnswer};
-ghost use Rattle.nq_logic.specs.Ground.{ground_history};
+ghost use Rattle.nq_logic.specs.Ground.{ground_history, symbols_of};
+ghost use Rattle.nq_language.specs.Arities.{arity_in};
+ghost use Rattle.nq_bank.specs.Shells.{texts_at};
 
 use crate::entry::{Entry, EntryKind};
 use crate::ground_entries::ground_entries;
+use crate::index::{Index, index_of};
 use crate::lookup::{count_before, entry_among, is_enabled_among, is_used_among};
 use crate::reserved::is_reserved;
 use nq_bank::{Bank, Sym, TermId, is_same_name};
-use std::alloc::AllocError;
+use std::alloc::{AllocError, Global};
 use std::marker::Model;
+use thiserror::Error;
 
 /// How many events the ground history has.
 pub const GROUND_LENGTH: usize = 38;
@@ -27,22 +31,27 @@ pub const GROUND_LENGTH: usize = 38;
 pub const EVENT_LIMIT: usize = 10_000;
 
 /// Why an event was not added.
-#[derive(Clone, Copy, Debug, PartialEq, Eq)]
+#[derive(Clone, Copy, Debug, PartialEq, Eq, Error)]
 pub enum PushFault {
     /// Its name is in use.
+    #[error("the name is in use")]
     NameInUse,
     /// `EVENT_LIMIT` events stand past the ground history.
+    #[error("too many events")]
     TooManyEvents,
     /// Memory is wanting.
+    #[error("out of memory")]
     Memory,
 }
 
 /// Why an event was not undone.
-#[derive(Clone, Copy, Debug, PartialEq, Eq)]
+#[derive(Clone, Copy, Debug, PartialEq, Eq, Error)]
 pub enum UndoFault {
     /// No event has the name.
+    #[error("no event has this name")]
     NoSuchEvent,
     /// It is an event of the ground history.
+    #[error("an event of the ground history")]
     GroundEvent,
 }
 
@@ -50,18 +59,20 @@ pub enum UndoFault {
 #[derive(Drop)]
 pub struct History {
     entries: Vec<Entry>,
+    index: Index,
 }
 
 impl Model for History {
     ghost use Rattle.std.specs.Prelude.{List, length, ◌≤◌};
     ghost use Rattle.nq_history.specs.Events.{ground_length};
     ghost use Rattle.nq_history.specs.declared.entry.Entry.{Entry};
+    ghost use Rattle.nq_history.specs.Functions.{IsIndexOf};
 
     ghost Value = { List Entry };
 
     ghost view = { λ h. h.entries.items };
 
-    ghost invariant = { λ h. ground_length ≤ length h.entries.items };
+    ghost invariant = { λ h. (ground_length ≤ length h.entries.items) × IsIndexOf h.entries.items h.index };
 }
 
 impl History {
@@ -75,7 +86,8 @@ impl History {
         ensures grows { Grows bank.old bank.new }
     {
         let entries = ground_entries(bank)?;
-        Ok(History { entries })
+        let index = index_of(bank.alloc(), entries.as_slice())?;
+        Ok(History { entries, index })
     }
 
     /// All entries, oldest first; those of the ground history stand first.
@@ -136,6 +148,22 @@ impl History {
         is_reserved(bank.text(name)) || is_used_among(bank, self.entries.as_slice(), name)
     }
 
+    /// How many arguments the history's function of this name has; none where it has no such function. It takes no memory.
+    pub fn arity(&self, name: Sym) -> Option<u64>
+        ensures { (bank : Content) → IsSound bank → HistoryStands bank self.now → IsNamed bank name → result ≡ arity_in (symbols_of (events_at bank self.now)) (text_at bank name) }
+    {
+        self.index.arity(name)
+    }
+
+    /// The functions of the history, those of the ground history first.
+    pub fn symbols(&self) -> &[Sym]
+        // Over each bank their texts are the names of the logic's functions.
+        ensures texts { (bank : Content) → HistoryStands bank self.now → texts_at bank result.now ≡ symbol_names (symbols_of (events_at bank self.now)) }
+        ensures stand { (bank : Content) → HistoryStands bank self.now → All (IsNamed bank) result.now }
+    {
+        self.index.functions.as_slice()
+    }
+
     /// Is this name enabled: was the last event that disables or enables it, if there is one, no disabling? It takes no memory.
     pub fn enabled(&self, name: Sym) -> bool
         ensures value { result ≡ enabled_in name true self.now }
@@ -162,14 +190,21 @@ impl History {
     }
 
     /// Adds an entry at the end.
-    fn add(&mut self, entry: Entry) -> Result<(), PushFault>
+    fn add(&mut self, alloc: Global, entry: Entry) -> Result<(), PushFault>
         ensures ok { OnOk result (self.new ≡ self.old ++ entry ∷ []) }
         ensures fault { IsAnswer None result }
         ensures err { OnErr result (self.new ≡ self.old) }
     {
+        match self.index.add(alloc, &entry) {
+            Ok(()) => {}
+            Err(_) => return Err(PushFault::Memory),
+        }
         match self.entries.push(entry) {
             Ok(()) => Ok(()),
-            Err(_) => Err(PushFault::Memory),
+            Err(_) => {
+                self.index.keep(self.entries.as_slice());
+                Err(PushFault::Memory)
+            }
         }
     }
 
@@ -195,7 +230,7 @@ impl History {
         if let Some(fault) = self.fault_of(bank, entry.name) {
             return Err(fault);
         }
-        self.add(entry)
+        self.add(bank.alloc(), entry)
     }
 
     /// Undoes the first event of this name and all later ones, and answers how many these are. It is `NoSuchEvent` exactly
@@ -242,6 +277,7 @@ impl History {
         let mark = self.entries[kept].mark;
         bank.release(mark);
         self.entries.truncate(kept);
+        self.index.keep(self.entries.as_slice());
     }
 }
 

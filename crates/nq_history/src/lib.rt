@@ -17,6 +17,11 @@ mod ground_table;
 mod lookup;
 mod reserved;
 
+// what stands beside the entries: names by their first places, and functions
+mod functions;
+mod index;
+mod names;
+
 // the events
 mod history;
 

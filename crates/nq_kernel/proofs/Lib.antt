@@ -1,7 +1,12 @@
 pub mod Concluding
 pub mod LogLemmas
+pub mod RuleGrowth
+pub mod LogGrowth
+pub mod OverLemmas
 pub mod GrowingLemmas
 pub mod HeldLines
 pub mod StepLemmas
+pub mod DepthLemmas
 pub mod EntryLemmas
 pub mod AxiomLemmas
+pub mod SoundLines

@@ -1,5 +1,5 @@
 -- Steps, summed line by line.
-use Rattle.std.proofs.Common.{◌≡◌, ℕ, ◌+◌, ◌-◌, ◌*◌, ◌^◌, ◌<◌, min, List, [], ◌∷◌, ◌++◌, length, get_or, take, ap, ◌∙◌, arith}
+use Rattle.std.proofs.Common.{◌≡◌, ℕ, zero, suc, ◌+◌, ◌-◌, ◌*◌, ◌^◌, ◌<◌, ◌≤◌, ◌⊎◌, inl, inr, min, List, [], ◌∷◌, ◌++◌, length, get_or, take, ap, ◌∙◌, arith}
 use Rattle.std.specs.Prelude.{Result, Ok, Err, OnErr}
 use Rattle.std.proofs.lemmas.List.{take_more}
 use Rattle.nq_rule.specs.declared.induction.InductionStep.{InductionStep}
@@ -20,9 +20,21 @@ cases-push (d ∷ cases) c = let rest = cases-push cases c in omega (arith, rest
 pub cases_more : (cases : List CaseOfInduction) (i : ℕ) (c : CaseOfInduction) → i < length cases → get_or cases i c ≡ c → steps_of_cases (take (i + 1) cases) ≡ steps_of_cases (take i cases) + (3 + steps_of_hypotheses c.steps.items)
 cases_more cases i c below at = ap steps_of_cases (take_more cases i c below ∙ ap (λ d. take i cases ++ d ∷ []) at) ∙ cases-push (take i cases) c
 
+below_or_past : (limit sum : ℕ) → (limit < sum) ⊎ (sum ≤ limit)
+below_or_past limit zero = inr (omega arith)
+below_or_past zero (suc sum) = inl (omega arith)
+below_or_past (suc limit) (suc sum) = elim (below_or_past limit sum) as (λ o. (suc limit < suc sum) ⊎ (suc sum ≤ suc limit)) [ inl h ↦ inl (omega arith) | inr h ↦ inr (omega arith) ]
+
 -- what is counted is counted up to the limit
-pub counted_is : (used limit made steps kept total new : ℕ) → kept ≡ min steps (2 ^ 64 - 1) → total ≡ min (made + kept) (2 ^ 64 - 1) → limit < 2 ^ 64 → new ≡ min (used + total) limit → new ≡ min (used + made + steps) limit
+pub counted_is : (used limit made steps kept total new : ℕ) → kept ≡ min steps (2 ^ 128 - 1) → total ≡ min (made + kept) (2 ^ 128 - 1) → limit < 2 ^ 64 → new ≡ min (used + total) limit → new ≡ min (used + made + steps) limit
 counted_is used limit made steps kept total new a b c d = omega arith
+
+-- it is within the limit where the sum as it is kept is
+pub within_is : (used limit made steps kept total : ℕ) → kept ≡ min steps (2 ^ 128 - 1) → total ≡ min (made + kept) (2 ^ 128 - 1) → limit < 2 ^ 64 → used + total ≤ limit → used + made + steps ≤ limit
+within_is used limit made steps kept total a b c d = omega arith
+
+pub passes_is : (used limit made steps kept total : ℕ) → kept ≡ min steps (2 ^ 128 - 1) → total ≡ min (made + kept) (2 ^ 128 - 1) → limit < 2 ^ 64 → (used + total ≤ limit → ⊥) → limit < used + made + steps
+passes_is used limit made steps kept total a b c d = elim (below_or_past limit (used + total)) [ inl past ↦ omega (arith, past) | inr within ↦ absurd (d within) ]
 
 -- what holds after an error
 pub err_holds : {A F : Type 0} (r : Result A F) (e : F) (P : Type 0) → OnErr r P → r ≡ Err e → P

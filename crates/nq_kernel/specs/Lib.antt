@@ -1,8 +1,11 @@
 pub mod Lines
 pub mod Meaning
+pub mod Over
 pub mod Counting
 pub mod Steps
 pub mod Paths
 pub mod Growing
 pub mod Laws
 pub mod Entries
+pub mod Hints
+pub mod Proving

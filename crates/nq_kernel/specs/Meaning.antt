@@ -1,5 +1,5 @@
 -- What rules and lines of ids mean over a bank.
-use Rattle.std.specs.Prelude.{◌≡◌, ◌+◌, ◌++◌, ◌∷◌, [], ℕ, true, List, Option, length, All, ⊤}
+use Rattle.std.specs.Prelude.{◌≡◌, ◌+◌, ◌++◌, ◌∷◌, [], ℕ, Bool, true, false, List, Option, length, All, ⊤}
 use Rattle.std.specs.Option.{option_map}
 use Rattle.nq_bank.specs.declared.node.TermId.{TermId}
 use Rattle.nq_bank.specs.Content.{Content, Stands, IsNamed, text_at, term_at, terms_at}
@@ -55,6 +55,11 @@ RuleStands bank (SplitFirst line place) = ⊤
 RuleStands bank (SplitSecond line place) = ⊤
 RuleStands bank (NotNot line place) = ⊤
 RuleStands bank (Induct claim measure ordinal base cases) = InductionStands bank claim measure cases.items
+
+-- whether the rule is the row of an axiom
+abbrev pub is_axiom_row : Rule → Bool
+is_axiom_row (AxiomRow name row part) = true
+is_axiom_row rule = false
 
 -- the ids of each line's clause stand in the bank
 pub record IsOver (bank : Content) (log : List Line) : Type 0 where

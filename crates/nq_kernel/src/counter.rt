@@ -25,7 +25,7 @@ impl Model for Counter {
 
 impl Counter {
     /// Nothing is used of so many steps.
-    pub fn new(limit: u64) -> Counter
+    pub(crate) fn new(limit: u64) -> Counter
         ensures used { result.used ≡ 0 }
         ensures limit { result.limit ≡ limit }
     {
@@ -48,21 +48,24 @@ impl Counter {
     }
 
     /// Counts so many steps; where they would pass the limit, the counter is at its limit and the answer is no.
-    pub fn count(&mut self, steps: u64) -> bool
+    pub(crate) fn count(&mut self, steps: u128) -> bool
         ensures fits { IsTrue result ↔ (self.old.used + steps ≤ self.old.limit) }
         ensures used { self.new.used ≡ min (self.old.used + steps) self.old.limit }
         ensures rises { self.old.used ≤ self.new.used }
         ensures limit { self.new.limit ≡ self.old.limit }
         ensures bounded { self.new.limit < 2 ^ 64 }
     {
-        let sum = self.used.saturating_add(steps);
-        let fits = steps <= self.limit - self.used;
-        self.used = sum.min(self.limit);
-        fits
+        let left = self.limit - self.used;
+        if steps > u128::from(left) {
+            self.used = self.limit;
+            return false;
+        }
+        self.used += steps as u64;
+        true
     }
 
     /// Uses the counter up.
-    pub fn use_up(&mut self)
+    pub(crate) fn use_up(&mut self)
         ensures used { self.new.used ≡ self.old.limit }
         ensures rises { self.old.used ≤ self.new.used }
         ensures limit { self.new.limit ≡ self.old.limit }

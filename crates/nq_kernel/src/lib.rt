@@ -1,7 +1,7 @@
 //! The log of rules: lines whose clauses follow from the lines before them.
 #![tactic(auto)]
 
-ghost use Rattle.nq_kernel.specs.Laws.{SoundLine};
+ghost use Rattle.nq_kernel.specs.Laws.{SoundLine, SoundLog};
 
 // rules and lines
 mod rule;
@@ -21,17 +21,34 @@ mod log;
 mod counter;
 mod numbers;
 
+// type prescriptions that lines show
+mod prescription;
+
 // work that is counted
 mod work;
 
+// what provers are told, what they answer, and what they are
+mod hints;
+mod prover;
+mod verdict;
+
 pub use counter::Counter;
+pub use hints::{Hints, Instance};
 pub use log::Log;
+pub use prescription::Prescription;
+pub use prover::Prover;
 pub use rule::{Line, Rule};
+pub use verdict::{Cause, MoveKind, Path, PathStep, Proof, Quick, Verdict};
 pub use work::{Stop, Work};
 
 /// The line of an allowed rule is derivable where the lines before it are.
 pub fn sound_line()
     ensures { SoundLine }
+{}
+
+/// Each standing line is derivable of a log that grew from the empty log by rules over the history's functions.
+pub fn sound_log()
+    ensures { SoundLog }
 {}
 
 #[cfg(test)]

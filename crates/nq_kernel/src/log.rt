@@ -1,5 +1,5 @@
 //! The log: lines whose clauses follow by its rules from the lines before them.
-ghost use Rattle.std.specs.Prelude.{◌≡◌, ◌+◌, ◌-◌, ◌<◌, ◌≤◌, ◌^◌, ◌++◌, ◌∷◌, [], ℕ, length, All, IfOk, OnOk, OnErr, IsSome, is_some, IfSome, ◌&&◌, Some, None, Err, slice_set};
+ghost use Rattle.std.specs.Prelude.{◌≡◌, ◌+◌, ◌-◌, ◌<◌, ◌≤◌, ◌^◌, ◌++◌, ◌∷◌, [], ℕ, false, length, All, IfOk, OnOk, OnErr, IsSome, is_some, IfSome, ◌&&◌, Some, None, Err, slice_set};
 ghost use Rattle.std.specs.Option.{option_copied, option_map};
 ghost use Rattle.nq_bank.specs.Content.{Content, Grows, Stands, term_at};
 ghost use Rattle.nq_clause.specs.Substitution.{substitution_at, PairStands};
@@ -14,7 +14,7 @@ ghost use Rattle.nq_rule.specs.Branches.{branches_at, BranchesStand};
 ghost use Rattle.nq_rule.specs.Conclusions.{Concludes, IsDeep};
 ghost use Rattle.nq_rule.specs.Places.{part_at};
 ghost use Rattle.nq_rule.specs.Results.{first_split_of, second_split_of, not_not_of};
-ghost use Rattle.nq_kernel.specs.Meaning.{clause_at, IsOver, RuleStands, Adds, conclusion_at};
+ghost use Rattle.nq_kernel.specs.Meaning.{clause_at, IsOver, RuleStands, Adds, conclusion_at, is_axiom_row};
 ghost use Rattle.nq_kernel.specs.Lines.{ids_at, rule_of};
 
 use crate::axioms::{clause_of_axiom, has_axiom};
@@ -241,6 +241,7 @@ impl Log {
         requires branches { IsSome (and_then (clause_at bank.old self.now line) (λ c. and_then (literal_at place c) if_parts)) }
         ensures ok { IfOk result (λ c. Concludes bank.new c.items (given (clause_at bank.old self.now line) (first_split_of place))) }
         ensures grows { Grows bank.old bank.new }
+        ensures names { bank.new.names ≡ bank.old.names }
         ensures deep { result ≡ Err BankFault.Deep → IsDeep (given (clause_at bank.old self.now line) (first_split_of place)) }
     {
         let parts = self.branches_of(bank, line, place).unwrap();
@@ -286,6 +287,7 @@ impl Log {
         ensures ok { IfOk result (λ c. Concludes bank.new c.items (conclusion_at bank.old history.now self.now rule.now)) }
         ensures grows { Grows bank.old bank.new }
         ensures deep { result ≡ Err BankFault.Deep → IsDeep (conclusion_at bank.old history.now self.now rule.now) }
+        ensures names { is_axiom_row rule.now ≡ false → bank.new.names ≡ bank.old.names }
     {
         match rule {
             Rule::Taut(terms) => clause_of(bank, terms.as_slice()),
@@ -338,8 +340,13 @@ impl Log {
 
         // A clause with a term that is too deep is refused as such, unless memory is wanting first; no other is.
         ensures deep { result ≡ Err BankFault.Deep → IsDeep (conclusion_at bank.old history.now self.old rule) }
+        ensures shallow { OnOk result (IsDeep (conclusion_at bank.old history.now self.old rule) → ⊥) }
+
+        // Only the row of an axiom brings names, those of its variables.
+        ensures names { is_axiom_row rule ≡ false → bank.new.names ≡ bank.old.names }
     {
         let clause = self.conclude(bank, history, &rule)?;
+        bank.is_sound();
         let n = self.len() + 1;
         self.push(Line {
             rule,

@@ -2,17 +2,21 @@ ghost use Rattle.std.specs.Prelude.{◌≡◌, ◌<◌, nat_lt, length, All, IfO
 ghost use Rattle.nq_bank.specs.GroundNames.{ground_count};
 ghost use Rattle.nq_bank.specs.Content.{Stands};
 ghost use Rattle.nq_clause.specs.Substitution.{PairStands};
+ghost use Rattle.nq_rule.specs.Inductions.{CaseStands, HypothesisStands};
 ghost use Rattle.nq_kernel.specs.Growing.{WorkStands};
 ghost use Rattle.nq_kernel.specs.Meaning.{RuleStands};
+
+mod hand_log;
 
 use super::*;
 use nq_bank::{Bank, Sym, TermId, ground, ground_name};
 use nq_clause::Pair;
 use nq_history::History;
-use nq_rule::{Branches, Side};
+use nq_rule::{CaseOfInduction, InductionStep};
 use std::process::Abort;
 use std::test::Fail;
 
+/// Does a term stand?
 fn stands(bank: &Bank, t: TermId) -> bool
     ensures { result ≡ nat_lt t.0 (length bank.now.terms) }
 {
@@ -43,26 +47,52 @@ fn pairs_stand(bank: &Bank, pairs: &[Pair]) -> bool
     true
 }
 
-/// Do the names and terms of a rule stand, if it is one of those that the log written by hand has?
+fn step_stands(bank: &Bank, step: &InductionStep) -> bool
+    ensures { result ≡ true → HypothesisStands bank.now step.now }
+{
+    pairs_stand(bank, step.pairs.as_slice())
+}
+
+fn steps_stand(bank: &Bank, steps: &[InductionStep]) -> bool
+    ensures { result ≡ true → All (HypothesisStands bank.now) steps.now }
+{
+    steps.iter().all(|s| step_stands(bank, s))
+}
+
+fn case_stands(bank: &Bank, case: &CaseOfInduction) -> bool
+    ensures { result ≡ true → CaseStands bank.now case.now }
+{
+    stands(bank, case.test) && steps_stand(bank, case.steps.as_slice())
+}
+
+fn cases_stand(bank: &Bank, cases: &[CaseOfInduction]) -> bool
+    ensures { result ≡ true → All (CaseStands bank.now) cases.now }
+{
+    cases.iter().all(|c| case_stands(bank, c))
+}
+
+/// Do the names and terms of a rule stand?
 fn rule_stands(bank: &Bank, rule: &Rule) -> bool
     ensures { result ≡ true → RuleStands bank.now rule.now }
 {
     match rule {
         Rule::Taut(terms) => all_stand(bank, terms.as_slice()),
         Rule::AxiomRow(name, _, _) => named(bank, *name),
-        Rule::EventTerm(_) => false,
-        Rule::Weaken(_, _) => false,
+        Rule::EventTerm(name) => named(bank, *name),
+        Rule::Weaken(_, terms) => all_stand(bank, terms.as_slice()),
         Rule::Cut(_, _, t) => stands(bank, *t),
         Rule::Instance(_, pairs) => pairs_stand(bank, pairs.as_slice()),
-        Rule::Reflexive(_) => false,
+        Rule::Reflexive(t) => stands(bank, *t),
         Rule::Replace(_, _, _, t, _) => stands(bank, *t),
         Rule::Join(_, _, parts) => {
             stands(bank, parts.test) && stands(bank, parts.first) && stands(bank, parts.second)
         }
-        Rule::SplitFirst(_, _) => false,
-        Rule::SplitSecond(_, _) => false,
-        Rule::NotNot(_, _) => false,
-        Rule::Induct(_, _, _, _, _) => false,
+        Rule::SplitFirst(_, _) => true,
+        Rule::SplitSecond(_, _) => true,
+        Rule::NotNot(_, _) => true,
+        Rule::Induct(claim, measure, _, _, cases) => {
+            stands(bank, *claim) && stands(bank, *measure) && cases_stand(bank, cases.as_slice())
+        }
     }
 }
 
@@ -103,172 +133,9 @@ fn line(
 {
     assert!(rt; rule_stands(&work.bank, &rule));
     assert!(rt; work.log.allowed(&work.bank, history, &rule)?);
-    let n = work.add(history, rule)?;
+    let n = work.log.add(&mut work.bank, history, rule)?;
     assert!(rt; work.log.cited(n) == Some(want), "line {n}");
     Ok(())
-}
-
-/// The terms of the log written by hand: P, Q, `(NOT P)`, T, F, `(IF P T F)`, `(IF P (IF P T F) T)`, `(IMPLIES P P)`, and the
-/// equation of the last two.
-#[derive(Clone, Copy)]
-struct Terms {
-    p: TermId,
-    q: TermId,
-    denied: TermId,
-    truth: TermId,
-    falsity: TermId,
-    inner: TermId,
-    outer: TermId,
-    claim: TermId,
-    equation: TermId,
-}
-
-fn hand_terms(
-    rt: &impl Abort,
-    work: &mut Work,
-    history: &History,
-    p: TermId,
-    q: TermId,
-) -> Result<Terms, Fail>
-    requires stands { WorkStands history.now work.old }
-    ensures stands { WorkStands history.now work.new }
-{
-    let denied = call(rt, work, history, ground::NOT, &[p])?;
-    let truth = call(rt, work, history, ground::TRUE, &[])?;
-    let falsity = call(rt, work, history, ground::FALSE, &[])?;
-    let inner = call(rt, work, history, ground::IF, &[p, truth, falsity])?;
-    let outer = call(rt, work, history, ground::IF, &[p, inner, truth])?;
-    let claim = call(rt, work, history, ground::IMPLIES, &[p, p])?;
-    let equation = call(rt, work, history, ground::EQUAL, &[claim, outer])?;
-    Ok(Terms {
-        p,
-        q,
-        denied,
-        truth,
-        falsity,
-        inner,
-        outer,
-        claim,
-        equation,
-    })
-}
-
-/// Lines 1 to 5: `T`; `P`, `(NOT P)`; then the branches of `(IF P (IF P T F) T)`, joined; and the opening of IMPLIES.
-fn first_lines(
-    rt: &impl Abort,
-    work: &mut Work,
-    history: &History,
-    t: &Terms,
-    opening: TermId,
-) -> Result<(), Fail>
-    requires stands { WorkStands history.now work.old }
-    ensures stands { WorkStands history.now work.new }
-{
-    let alloc = work.bank.alloc();
-    let axiom = Rule::AxiomRow(ground::TRUE, 1, 0);
-    line(rt, work, history, axiom, &[t.truth])?;
-    let tautology = Rule::Taut(vec![in alloc; t.p, t.denied]?);
-    line(rt, work, history, tautology, &[t.p, t.denied])?;
-    let parts = Branches {
-        test: t.p,
-        first: t.truth,
-        second: t.falsity,
-    };
-    line(
-        rt,
-        work,
-        history,
-        Rule::Join(1, 2, parts),
-        &[t.denied, t.inner],
-    )?;
-    let parts = Branches {
-        test: t.p,
-        first: t.inner,
-        second: t.truth,
-    };
-    line(rt, work, history, Rule::Join(3, 1, parts), &[t.outer])?;
-    let axiom = Rule::AxiomRow(ground::IMPLIES, 1, 0);
-    line(rt, work, history, axiom, &[opening])
-}
-
-/// Lines 6 to 8: an instance of the opening; the call in place of its body; and the two, cut.
-fn last_lines(
-    rt: &impl Abort,
-    work: &mut Work,
-    history: &History,
-    t: &Terms,
-    pair: Pair,
-    instance: TermId,
-    last: &[TermId],
-) -> Result<(), Fail>
-    requires stands { WorkStands history.now work.old }
-    ensures stands { WorkStands history.now work.new }
-{
-    let alloc = work.bank.alloc();
-    let pairs = vec![in alloc; pair]?;
-    line(rt, work, history, Rule::Instance(5, pairs), &[instance])?;
-    let denied = call(rt, work, history, ground::NOT, &[t.equation])?;
-    let replaced = Rule::Replace(4, 1, Vec::new(alloc), t.claim, Side::Backwards);
-    line(rt, work, history, replaced, &[t.claim, denied])?;
-    line(rt, work, history, Rule::Cut(6, 7, t.equation), last)
-}
-
-/// `(EQUAL (IMPLIES p q) (IF p (IF q T F) T))`
-fn opening(
-    rt: &impl Abort,
-    work: &mut Work,
-    history: &History,
-    t: &Terms,
-    p: TermId,
-    q: TermId,
-) -> Result<TermId, Fail>
-    requires stands { WorkStands history.now work.old }
-    ensures stands { WorkStands history.now work.new }
-{
-    let inner = call(rt, work, history, ground::IF, &[q, t.truth, t.falsity])?;
-    let body = call(rt, work, history, ground::IF, &[p, inner, t.truth])?;
-    let left = call(rt, work, history, ground::IMPLIES, &[p, q])?;
-    call(rt, work, history, ground::EQUAL, &[left, body])
-}
-
-#[test]
-fn the_log_written_by_hand_has_its_clauses(rt: HostRuntime) -> Result<(), Fail> {
-    let mut bank = Bank::new(rt.alloc())?;
-    let p = bank.name(b"P")?;
-    let q = bank.name(b"Q")?;
-    let left = bank.var(p)?;
-    let right = bank.var(q)?;
-    let history = History::ground(&mut bank)?;
-    let mut work = Work::new(bank, Log::new(rt.alloc()), 1000);
-    let t = hand_terms(&rt, &mut work, &history, left, right)?;
-    let opened = opening(&rt, &mut work, &history, &t, left, right)?;
-    first_lines(&rt, &mut work, &history, &t, opened)?;
-    let pair = Pair {
-        variable: q,
-        term: left,
-    };
-    last_lines(&rt, &mut work, &history, &t, pair, t.equation, &[t.claim])
-}
-
-// With Q in the place of P in its instance the log ends in a clause with one literal more than the lemma.
-#[test]
-fn another_instance_leaves_a_literal(rt: HostRuntime) -> Result<(), Fail> {
-    let mut bank = Bank::new(rt.alloc())?;
-    let p = bank.name(b"P")?;
-    let q = bank.name(b"Q")?;
-    let left = bank.var(p)?;
-    let right = bank.var(q)?;
-    let history = History::ground(&mut bank)?;
-    let mut work = Work::new(bank, Log::new(rt.alloc()), 1000);
-    let t = hand_terms(&rt, &mut work, &history, left, right)?;
-    let opened = opening(&rt, &mut work, &history, &t, left, right)?;
-    let other = opening(&rt, &mut work, &history, &t, right, right)?;
-    first_lines(&rt, &mut work, &history, &t, opened)?;
-    let pair = Pair {
-        variable: p,
-        term: right,
-    };
-    last_lines(&rt, &mut work, &history, &t, pair, other, &[other, t.claim])
 }
 
 #[test]

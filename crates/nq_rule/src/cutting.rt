@@ -137,6 +137,7 @@ pub fn join_clause(
     requires parts { BranchesStand bank.old parts }
     ensures ok { IfOk result (λ c. Concludes bank.new c.items (Some (join_of (term_at bank.old parts.test) (term_at bank.old parts.first) (term_at bank.old parts.second) (terms_at bank.old first.now) (terms_at bank.old second.now)))) }
     ensures grows { Grows bank.old bank.new }
+    ensures names { bank.new.names ≡ bank.old.names }
     ensures deep { result ≡ Err BankFault.Deep → IsDeep (Some (join_of (term_at bank.old parts.test) (term_at bank.old parts.first) (term_at bank.old parts.second) (terms_at bank.old first.now) (terms_at bank.old second.now))) }
 {
     let whole = ground_call(bank, ground::IF, &[parts.test, parts.first, parts.second])?;

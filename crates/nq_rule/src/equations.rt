@@ -31,6 +31,7 @@ pub fn reflexive_clause(bank: &mut Bank, t: TermId) -> Result<Vec<TermId>, BankF
     requires { Stands bank.old t }
     ensures ok { IfOk result (λ c. Concludes bank.new c.items (Some (equal_term (term_at bank.old t) (term_at bank.old t) ∷ []))) }
     ensures grows { Grows bank.old bank.new }
+    ensures names { bank.new.names ≡ bank.old.names }
     ensures deep { result ≡ Err BankFault.Deep → IsDeep (Some (equal_term (term_at bank.old t) (term_at bank.old t) ∷ [])) }
 {
     let equation = ground_call(bank, ground::EQUAL, &[t, t])?;

@@ -48,6 +48,7 @@ fn instances(bank: &mut Bank, terms: &[TermId], pairs: &[Pair]) -> Result<Vec<Te
     ensures clause { IfOk result (λ c. terms_at bank.new c.items ≡ map (substituted (substitution_at bank.old pairs.now)) (terms_at bank.old terms.now)) }
     ensures stand { IfOk result (λ c. All (Stands bank.new) c.items) }
     ensures grows { Grows bank.old bank.new }
+    ensures names { bank.new.names ≡ bank.old.names }
     ensures deep { result ≡ Err BankFault.Deep → HasDeep (map (substituted (substitution_at bank.old pairs.now)) (terms_at bank.old terms.now)) }
 {
     let mut literals = Vec::new(bank.alloc());
@@ -68,6 +69,7 @@ pub fn instance_clause(
     requires pairs { All (PairStands bank.old) pairs.now }
     ensures ok { IfOk result (λ c. Concludes bank.new c.items (Some (instance_of (substitution_at bank.old pairs.now) (terms_at bank.old terms.now)))) }
     ensures grows { Grows bank.old bank.new }
+    ensures names { bank.new.names ≡ bank.old.names }
     ensures deep { result ≡ Err BankFault.Deep → IsDeep (Some (instance_of (substitution_at bank.old pairs.now) (terms_at bank.old terms.now))) }
 {
     let literals = instances(bank, terms, pairs)?;

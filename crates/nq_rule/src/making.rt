@@ -14,6 +14,7 @@ pub fn ground_call(bank: &mut Bank, known: Sym, arguments: &[TermId]) -> Result<
     requires arguments { All (Stands bank.old) arguments.now }
     ensures ok { IfOk result (λ t. IsIdOf bank.new t (call (ground_text known) (terms_at bank.old arguments.now))) }
     ensures grows { Grows bank.old bank.new }
+    ensures names { bank.new.names ≡ bank.old.names }
     ensures deep { result ≡ Err BankFault.Deep → depth_limit < depth_of (call (ground_text known) (terms_at bank.old arguments.now)) }
 {
     let f = ground_name(bank, known);

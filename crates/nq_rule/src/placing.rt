@@ -125,6 +125,7 @@ pub fn first_branch_clause(
     requires place { IsSome (literal_at place (terms_at bank.old terms.now)) }
     ensures ok { IfOk result (λ c. Concludes bank.new c.items (Some (placed_of place (not_term (term_at bank.old parts.test) ∷ term_at bank.old parts.first ∷ []) (terms_at bank.old terms.now)))) }
     ensures grows { Grows bank.old bank.new }
+    ensures names { bank.new.names ≡ bank.old.names }
     ensures deep { result ≡ Err BankFault.Deep → IsDeep (Some (placed_of place (not_term (term_at bank.old parts.test) ∷ term_at bank.old parts.first ∷ []) (terms_at bank.old terms.now))) }
 {
     let denial = ground_call(bank, ground::NOT, &[parts.test])?;

@@ -99,6 +99,7 @@ fn with_argument_at(
     requires place { IsSome (literal_at place (parts_of (term_at bank.old whole))) }
     ensures ok { IfOk result (λ r. IsIdOf bank.new r (with_argument place (term_at bank.old part) (term_at bank.old whole))) }
     ensures grows { Grows bank.old bank.new }
+    ensures names { bank.new.names ≡ bank.old.names }
     ensures deep { result ≡ Err BankFault.Deep → depth_limit < depth_of (with_argument place (term_at bank.old part) (term_at bank.old whole)) }
 {
     match bank.node(whole) {
@@ -124,6 +125,7 @@ pub fn with_part_at(
     requires path { IsSome (part_at path.now (term_at bank.old whole)) }
     ensures ok { IfOk result (λ r. IsIdOf bank.new r (with_part path.now (term_at bank.old t) (term_at bank.old whole))) }
     ensures grows { Grows bank.old bank.new }
+    ensures names { bank.new.names ≡ bank.old.names }
     ensures deep { result ≡ Err BankFault.Deep → depth_limit < depth_of (with_part path.now (term_at bank.old t) (term_at bank.old whole)) }
 {
     match path {
@@ -147,6 +149,7 @@ fn used_equation_of(
     requires now { Stands bank.old now }
     ensures ok { IfOk result (λ t. IsIdOf bank.new t (used_equation (side_of side) (term_at bank.old was) (term_at bank.old now))) }
     ensures grows { Grows bank.old bank.new }
+    ensures names { bank.new.names ≡ bank.old.names }
     ensures deep { result ≡ Err BankFault.Deep → depth_limit < depth_of (used_equation (side_of side) (term_at bank.old was) (term_at bank.old now)) }
 {
     match side {
@@ -160,6 +163,7 @@ fn denied_equation(bank: &mut Bank, left: TermId, right: TermId) -> Result<TermI
     requires right { Stands bank.old right }
     ensures ok { IfOk result (λ t. IsIdOf bank.new t (not_term (equal_term (term_at bank.old left) (term_at bank.old right)))) }
     ensures grows { Grows bank.old bank.new }
+    ensures names { bank.new.names ≡ bank.old.names }
     ensures deep { result ≡ Err BankFault.Deep → depth_limit < depth_of (not_term (equal_term (term_at bank.old left) (term_at bank.old right))) }
 {
     let equation = ground_call(bank, ground::EQUAL, &[left, right])?;
@@ -211,6 +215,7 @@ pub fn replace_clause(
     requires place { IsSome (and_then (literal_at place (terms_at bank.old terms.now)) (λ a. part_at path.now a)) }
     ensures ok { IfOk result (λ c. Concludes bank.new c.items (replacement_of place path.now (term_at bank.old t) (side_of side) (terms_at bank.old terms.now))) }
     ensures grows { Grows bank.old bank.new }
+    ensures names { bank.new.names ≡ bank.old.names }
     ensures deep { result ≡ Err BankFault.Deep → IsDeep (replacement_of place path.now (term_at bank.old t) (side_of side) (terms_at bank.old terms.now)) }
 {
     let a = literal(bank, terms, place).unwrap();

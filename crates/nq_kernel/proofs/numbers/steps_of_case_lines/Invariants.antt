@@ -4,4 +4,4 @@ use Rattle.nq_kernel.specs.Steps.{steps_of_cases}
 use Rattle.nq_kernel.proofs.numbers.steps_of_case_lines.Given as goal
 
 abbrev pub invariant-loop-c : goal.invariant-loop-c
-invariant-loop-c l = l.sum ≡ min (steps_of_cases (take l.c-index l.cases)) (2 ^ 64 - 1)
+invariant-loop-c l = l.sum ≡ min (steps_of_cases (take l.c-index l.cases)) (2 ^ 128 - 1)

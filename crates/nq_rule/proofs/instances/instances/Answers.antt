@@ -33,6 +33,7 @@ loop-t-preserved c =
     let step : IsStep old bank new c.args.pairs.now c.args.terms.now c.loop-t.literals.items c.loop-t.t-index = record { before = c.loop-t.invariant.grows; after = c.substitute.ensures.grows; stand = c.loop-t.invariant.stand; arguments = c.requires.terms; standing = c.requires.pairs; below = c.loop-t-test.true; done = c.loop-t.invariant.done } in
     record {
       grows = Grows-trans old bank new c.loop-t.invariant.grows c.substitute.ensures.grows;
+      names = c.substitute.ensures.names ∙ c.loop-t.invariant.names;
       stand = subst (All (Stands new)) (sym literals) (All-push (Stands new) c.loop-t.literals.items literal (stand_grown bank new c.loop-t.literals.items c.substitute.ensures.grows c.loop-t.invariant.stand) c.in_ok-literal.ensures.ok.stands);
       done = ap (terms_at new) literals ∙ replaced_step old bank new c.args.pairs.now c.args.terms.now c.loop-t.literals.items c.loop-t.t-index first literal step c.in_ok-literal.ensures.ok;
     }

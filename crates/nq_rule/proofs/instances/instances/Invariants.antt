@@ -10,6 +10,7 @@ abbrev pub invariant-loop-t : goal.invariant-loop-t
 invariant-loop-t l =
     record {
       grows : Grows l.fn.bank l.bank;
+      names : l.bank.names ≡ l.fn.bank.names;
       stand : All (Stands l.bank) l.literals.items;
       done : terms_at l.bank l.literals.items ≡ map (substituted (substitution_at l.fn.bank l.pairs)) (terms_at l.fn.bank (take l.t-index l.terms));
     }

@@ -11,7 +11,7 @@ use Rattle.nq_rule.specs.Results.{weaker_of, instance_of, replacement_of}
 use Rattle.nq_rule.specs.Inductions.{cases_at}
 use Rattle.nq_rule.specs.Sides.{side_of}
 use Rattle.nq_kernel.specs.Lines.{ids_at}
-use Rattle.nq_kernel.specs.Meaning.{rule_at}
+use Rattle.nq_kernel.specs.Meaning.{rule_at, is_axiom_row}
 use Rattle.nq_kernel.proofs.Concluding.{told, is_some-mapped, taut_is, axiom_test, axiom_is, event_test, event_is, weaken_test, weaken_is, cut_test, cut_is, instance_test, instance_is, reflexive_is, replace_stands, replace_leads, replace_is, join_test, join_is, split_first_test, split_first_is, split_second_test, split_second_is, not_not_test, not_not_is, induct_is}
 use Rattle.nq_kernel.proofs.log.Log.conclude.Goals as goal
 
@@ -150,3 +150,9 @@ pub returns-in-Induct-clause-ok : goal.returns-in-Induct-clause-ok
 returns-in-Induct-clause-ok c =
     let P : Option Clause → Type 0 = λ o. IfOk c.clause_of_one-in-Induct.result (λ v. Concludes c.args.bank.now v.items o) in
     subst P (sym (induct_is c.args.bank.now c.args.history.now c.args.self.now c.args.rule.now (term_at c.args.bank.now c.in-Induct.claim) (term_at c.args.bank.now c.in-Induct.field-1) c.in-Induct.field-2 c.in-Induct.field-3 (cases_at c.args.bank.now c.in-Induct.field-4.items) (ap (rule_at c.args.bank.now) c.in-Induct.is) c.requires.allowed)) c.clause_of_one-in-Induct.ensures.ok
+
+pub returns-in-AxiomRow-clause-names : goal.returns-in-AxiomRow-clause-names
+returns-in-AxiomRow-clause-names c =
+    λ e.
+    let row : is_axiom_row c.args.rule.now ≡ true = ap is_axiom_row c.in-AxiomRow.is in
+    absurd cc

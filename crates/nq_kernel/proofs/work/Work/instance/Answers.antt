@@ -1,9 +1,11 @@
-use Rattle.std.proofs.Common.{◌≡◌, Option, ap, subst, refl}
+use Rattle.std.proofs.Common.{◌≡◌, ◌⊎◌, ◌+◌, ◌*◌, Option, length, ap, subst, refl}
 use Rattle.std.specs.Prelude.{is_some, IfOk}
 use Rattle.nq_clause.specs.Substitution.{substitution_at}
 use Rattle.nq_proof.specs.Clauses.{Clause}
+use Rattle.nq_rule.specs.Conclusions.{IsDeep}
 use Rattle.nq_kernel.specs.declared.rule.Rule.TheVariants.{Instance}
 use Rattle.nq_kernel.specs.Meaning.{clause_at}
+use Rattle.nq_kernel.specs.Growing.{PassesLimit}
 use Rattle.nq_kernel.proofs.HeldLines.{instance_held}
 use Rattle.nq_kernel.proofs.work.Work.instance.Goals as goal
 
@@ -14,3 +16,9 @@ pub returns-clause-line : goal.returns-clause-line
 returns-clause-line c =
     let P : Option Clause → Type 0 = λ o. IfOk c.add.result (λ n. clause_at c.add.new.self.bank c.add.new.self.log n ≡ o) in
     subst P (instance_held c.args.history.now c.args.self.now (Instance c.args.line c.args.pairs) c.args.line (substitution_at c.args.self.now.bank c.args.pairs.items) refl c.requires.line c.requires.distinct) c.add.ensures.line
+
+pub returns-clause-passes : goal.returns-clause-passes
+returns-clause-passes c =
+    λ e.
+    let P : Option Clause → Type 0 = λ o. PassesLimit c.args.self.now c.add.new.self (2 + 2 * length c.args.pairs.items) ⊎ IsDeep o in
+    subst P (instance_held c.args.history.now c.args.self.now (Instance c.args.line c.args.pairs) c.args.line (substitution_at c.args.self.now.bank c.args.pairs.items) refl c.requires.line c.requires.distinct) (c.add.ensures.passes e)

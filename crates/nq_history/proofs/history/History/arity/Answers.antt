@@ -1,0 +1,11 @@
+use Rattle.std.proofs.Common.{ap, ◌∙◌}
+use Rattle.nq_history.specs.Functions.{arity_among, functions_of}
+use Rattle.nq_history.proofs.FunctionLemmas.{arity_is}
+use Rattle.nq_history.proofs.history.History.arity.Goals as goal
+
+pub returns : goal.returns
+returns c =
+    λ bank sound stands named.
+    c.arity.ensures c.self.inside.entries.items c.self.invariant.1 ∙
+    ap (λ es. arity_among c.args.name (functions_of es)) c.self.view_is ∙
+    arity_is bank c.args.name c.args.self.now sound named stands
