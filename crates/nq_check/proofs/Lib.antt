@@ -1,0 +1,12 @@
+mod ArityLemmas
+mod ContextLemmas
+mod RuleLemmas
+mod ClaimLemmas
+mod ClosingLemmas
+mod UndoLemmas
+mod DropLemmas
+mod CaseLemmas
+mod NumberLemmas
+mod CallLemmas
+mod PassingLemmas
+mod CheckingLemmas

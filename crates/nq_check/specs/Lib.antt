@@ -1,0 +1,10 @@
+pub mod Texts
+pub mod Outcomes
+pub mod Functions
+pub mod Contexts
+pub mod Pairs
+pub mod Cases
+pub mod Judging
+pub mod Claims
+pub mod Passing
+pub mod Checking

@@ -1,0 +1,148 @@
+//! What each line of a log leads to.
+ghost use Rattle.std.specs.Prelude.{◌≡◌, IfOk, IfSome};
+ghost use Rattle.std.specs.Option.{option_map};
+ghost use Rattle.nq_logtext.specs.Views.{view};
+ghost use Rattle.nq_kernel.specs.Meaning.{rule_at, RuleStands};
+ghost use Rattle.nq_log.specs.RuleLines.{rule_line};
+ghost use Rattle.nq_log.specs.Logs.{continued};
+ghost use Rattle.nq_log.specs.Stage.{built_step};
+ghost use Rattle.nq_check.specs.Contexts.{state_of, IsWhole};
+ghost use Rattle.nq_check.specs.Judging.{Leads, rule_by};
+
+use crate::context::Context;
+use crate::judged::Judged;
+use nq_kernel::Rule;
+use nq_logtext::LogLine;
+use std::alloc::AllocError;
+
+impl Context {
+    /// Judges a line: where it is allowed, the context is the one after it.
+    pub fn judge(&mut self, line: &LogLine) -> Result<Judged, AllocError>
+        requires { IsWhole self.old }
+        ensures { IfOk result (λ judged. Leads (state_of self.old) (built_step (state_of self.old) (view line.now)) judged self.new) }
+    {
+        match line {
+            LogLine::Header { .. } => Ok(Judged::NotAllowed),
+            LogLine::End => Ok(self.end_line()),
+            LogLine::Function { .. } => Ok(Judged::NotAllowed),
+            LogLine::Variable { name } => self.variable_line(name.as_slice()),
+            LogLine::Numeral { value } => self.numeral_line(*value),
+            LogLine::Call {
+                function,
+                arguments,
+            } => self.call_line(function.as_slice(), arguments.as_slice()),
+            LogLine::Taut { .. } => self.judge_rule(line),
+            LogLine::Axiom { name, row, part } => self.axiom_line(name.as_slice(), *row, *part),
+            LogLine::Event { name } => self.event_line(name.as_slice()),
+            LogLine::Weaken { .. } => self.judge_rule(line),
+            LogLine::Cut { .. } => self.judge_rule(line),
+            LogLine::Inst { .. } => self.judge_rule(line),
+            LogLine::Refl { .. } => self.judge_rule(line),
+            LogLine::Replace { .. } => self.judge_rule(line),
+            LogLine::Join { .. } => self.judge_rule(line),
+            LogLine::Split { .. } => self.judge_rule(line),
+            LogLine::NotNot { .. } => self.judge_rule(line),
+            LogLine::Value { .. } => Ok(Judged::NotAllowed),
+            LogLine::Linear { .. } => Ok(Judged::NotAllowed),
+            LogLine::Induct {
+                goal,
+                measure,
+                ordinal,
+                base,
+            } => self.induct_line(*goal, *measure, *ordinal, *base),
+            LogLine::Drop { line } => Ok(self.drop_line(*line)),
+            LogLine::Case { test, line } => self.case_line(*test, *line),
+            LogLine::Hyp { line, bindings } => self.hypothesis_line(*line, bindings.as_slice()),
+            LogLine::BootStrap => self.bootstrap_line(),
+            LogLine::Shell { .. } => Ok(Judged::NotAllowed),
+            LogLine::Part { .. } => Ok(Judged::NotAllowed),
+            LogLine::Dcl { function, arity } => {
+                self.declaration_line(function.as_slice(), *arity)
+            }
+            LogLine::Axiomatize { name, term } => self.axiomatize_line(name.as_slice(), *term),
+            LogLine::Lemma { name, term, line } => {
+                self.lemma_line(name.as_slice(), *term, *line)
+            }
+            LogLine::Defn { .. } => Ok(Judged::NotAllowed),
+            LogLine::Measure { .. } => Ok(Judged::NotAllowed),
+            LogLine::Toggle {
+                name,
+                old,
+                disables,
+            } => self.toggle_line(name.as_slice(), old.as_slice(), *disables),
+            LogLine::Undo { name } => self.undo_line(name.as_slice()),
+        }
+    }
+
+    /// Judges the line of a rule.
+    fn judge_rule(&mut self, line: &LogLine) -> Result<Judged, AllocError>
+        requires { IsWhole self.old }
+        ensures { IfOk result (λ judged. Leads (state_of self.old) (continued (rule_line (state_of self.old) (rule_by (state_of self.old).block (view line.now)))) judged self.new) }
+    {
+        let rule = self.rule_of(line)?;
+        self.rule_line(rule)
+    }
+
+    /// The rule of a line, where it is a rule's that is built and its numbers have terms.
+    fn rule_of(&self, line: &LogLine) -> Result<Option<Rule>, AllocError>
+        requires { IsWhole self.now }
+        ensures rule { IfOk result (λ rule. option_map (rule_at self.now.bank) rule ≡ rule_by (state_of self.now).block (view line.now)) }
+        ensures stands { IfOk result (λ rule. IfSome rule (λ rule. RuleStands self.now.bank rule)) }
+    {
+        match line {
+            LogLine::Taut { terms } => self.taut_rule(terms.as_slice()),
+            LogLine::Weaken { line, terms } => self.weaken_rule(*line, terms.as_slice()),
+            LogLine::Cut {
+                first,
+                second,
+                term,
+            } => Ok(self.cut_rule(*first, *second, *term)),
+            LogLine::Inst { line, bindings } => self.instance_rule(*line, bindings.as_slice()),
+            LogLine::Refl { term } => Ok(self.reflexive_rule(*term)),
+            LogLine::Replace {
+                line,
+                literal,
+                path,
+                term,
+                sign,
+            } => self.replace_rule(*line, *literal, path.as_slice(), *term, *sign),
+            LogLine::Join {
+                first,
+                second,
+                test,
+                left,
+                right,
+            } => Ok(self.join_rule(*first, *second, *test, *left, *right)),
+            LogLine::Split {
+                line,
+                literal,
+                side,
+            } => Ok(self.split_rule(*line, *literal, *side)),
+            LogLine::NotNot { line, literal } => Ok(self.not_not_rule(*line, *literal)),
+            LogLine::Header { .. } => Ok(None),
+            LogLine::End => Ok(None),
+            LogLine::Function { .. } => Ok(None),
+            LogLine::Variable { .. } => Ok(None),
+            LogLine::Numeral { .. } => Ok(None),
+            LogLine::Call { .. } => Ok(None),
+            LogLine::Axiom { .. } => Ok(None),
+            LogLine::Event { .. } => Ok(None),
+            LogLine::Value { .. } => Ok(None),
+            LogLine::Linear { .. } => Ok(None),
+            LogLine::Induct { .. } => Ok(None),
+            LogLine::Drop { .. } => Ok(None),
+            LogLine::Case { .. } => Ok(None),
+            LogLine::Hyp { .. } => Ok(None),
+            LogLine::BootStrap => Ok(None),
+            LogLine::Shell { .. } => Ok(None),
+            LogLine::Part { .. } => Ok(None),
+            LogLine::Dcl { .. } => Ok(None),
+            LogLine::Axiomatize { .. } => Ok(None),
+            LogLine::Lemma { .. } => Ok(None),
+            LogLine::Defn { .. } => Ok(None),
+            LogLine::Measure { .. } => Ok(None),
+            LogLine::Toggle { .. } => Ok(None),
+            LogLine::Undo { .. } => Ok(None),
+        }
+    }
+}
