@@ -1,0 +1,14 @@
+use Rattle.std.proofs.Common.{arith}
+use Rattle.std.specs.Prelude.{Ok}
+use Rattle.nq_block.proofs.BlockLemmas.{rule_stands_at, rule_goes_on}
+use Rattle.nq_block.proofs.writer.Writer.rules.Goals as goal
+
+pub rule-requires-clause-stands : goal.rule-requires-clause-stands
+rule-requires-clause-stands c = rule_stands_at c.args.bank.now c.args.history.now c.args.log.now c.requires.legal c.requires.over c.loop-k.k c.rule-line.result.now (omega arith) c.rule-line.ensures
+
+pub loop-k-preserved : goal.loop-k-preserved
+loop-k-preserved c =
+    record {
+      counted = c.in_ok-rule.ensures.counted;
+      writing = rule_goes_on c.args.bank.now c.args.history.now c.args.log.now c.requires.legal c.requires.over c.loop-k.k c.rule-line.result.now c.loop-k.self c.rule.new.self (Ok c.in_ok-rule.field-0) (omega arith) c.rule-line.ensures c.loop-k.invariant.writing c.in_ok-rule.ensures.rule;
+    }

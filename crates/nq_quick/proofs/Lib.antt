@@ -1,0 +1,17 @@
+pub mod HeadLemmas
+pub mod TautologyLemmas
+pub mod DepthLemmas
+pub mod LineLemmas
+pub mod InLemmas
+pub mod CheckedLemmas
+pub mod GrownLemmas
+pub mod RowLemmas
+pub mod SplitLemmas
+pub mod ChoiceLemmas
+pub mod PatternLemmas
+pub mod InstanceLemmas
+pub mod DecisionLemmas
+pub mod ClosingLemmas
+pub mod OtherLemmas
+pub mod CoveringLemmas
+pub mod ProvingLemmas

@@ -1,0 +1,62 @@
+//! The first pass: goals that are proved at once, without counting steps.
+//!
+//! A goal that is built of IF, NOT, AND, OR, IMPLIES, IFF, T and F over a few other terms, and is true whatever the truth of
+//! these is, is proved by a table of truth.
+//!
+//! For each way to make the other terms true or false, the goal is decided from the inside out, two lines for a node; a line
+//! that holds no more than it may is used again in other ways, and a way that doesn't matter isn't taken. So a goal takes
+//! between a few lines and, at most, three for each node in each way: 2,900 for the parity of eight terms in two orders, which
+//! needs all 256 ways.
+#![tactic(auto)]
+
+// what stands at the head of a term
+mod heads;
+
+// how many nodes a proposition has
+mod nodes;
+
+// the other terms of a proposition
+mod others;
+
+// truth under assignments
+mod truth;
+
+// which goals are small tautologies
+mod tautology;
+
+// lines that are added
+mod lines;
+
+// axioms and openings as lines
+mod rows;
+
+// lines of an IF
+mod choices;
+
+// lines of connectives over P and Q, and their instances
+mod instances;
+mod patterns;
+
+// lines that are kept, to be used again
+mod kept;
+mod literals;
+
+// lines that decide a proposition under an assignment
+mod assignments;
+mod closings;
+mod decisions;
+
+// lines of tautologies
+mod proving;
+
+// the first pass itself
+mod first_pass;
+mod fragments;
+
+pub use first_pass::quick;
+pub use fragments::Quick;
+pub use heads::{Connective, Head};
+pub use tautology::{is_small_tautology, small_tautology};
+
+#[cfg(test)]
+mod tests;
