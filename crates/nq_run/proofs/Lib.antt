@@ -1,5 +1,8 @@
 pub mod Elements
-pub mod NameLemmas
 pub mod TakingLemmas
 pub mod Deriving
+pub mod SpelledLemmas
+pub mod ProofLemmas
+pub mod SessionLemmas
+pub mod LogLemmas
 pub mod RunLemmas

@@ -1,5 +1,5 @@
 -- What the program answers, and its history afterwards, are a step.
-use Rattle.std.proofs.Common.{◌≡◌, Bool, true, false, ℕ, List, refl, ap₂, ◌∙◌}
+use Rattle.std.proofs.Common.{◌≡◌, Bool, true, false, ℕ, List, refl, ap, ap₂, subst, ◌∙◌}
 use Rattle.std.specs.Prelude.{Option, None, Some, if◌then◌else◌}
 use Rattle.nq_logic.specs.Histories.{History}
 use Rattle.nq_form.specs.Form.{Form}
@@ -11,7 +11,11 @@ use Rattle.nq_comment.specs.declared.answer.FormAnswer.TheVariants as form
 use Rattle.nq_run.specs.Events.{Event, BootStrap, Lemma, Other, event_of}
 use Rattle.nq_run.specs.Headers.{name_of, word_of}
 use Rattle.nq_run.specs.Steps.{AnswersUnless, Step, after, after_event, is_built, is_free}
-use Rattle.nq_run.specs.Taking.{IsTaken, taken}
+use Rattle.nq_log.specs.States.{Claim}
+use Rattle.nq_block.specs.Names.{HasSymbols}
+use Rattle.nq_run.specs.Claims.{claims_of}
+use Rattle.nq_run.specs.Outcome.{Answered, AreBlocks}
+use Rattle.nq_run.specs.Taking.{IsTaken, claims_taken, taken}
 
 where_built : (old : History) (refusal : Answer) (event : Event) (answer : Answer) (b : Bool) → b ≡ true → AnswersUnless None old event answer
     → AnswersUnless (if b then None else Some refusal) old event answer
@@ -69,3 +73,39 @@ pub step_after : (old new : History) (f : Form) (answer : FormAnswer) → IsTake
 step_after old new f answer h is =
     let same : new ≡ after old f (answer_of (shown_word (word_of f)) answer) = is ∙ taken_after old (event_of f) (shown_word (word_of f)) answer h in
     record { word = refl; name = refl; answer = event_answers old (event_of f) (shown_word (word_of f)) answer h; history = same }
+
+-- what is claimed of what the program answers
+claims_alike : (event : Event) (word : List ℕ) (answer : FormAnswer) → claims_taken event answer ≡ claims_of event (answer_of word answer)
+claims_alike BootStrap word form.Accepted = refl
+claims_alike BootStrap word form.Proved = refl
+claims_alike BootStrap word form.NotYet = refl
+claims_alike (Lemma name term) word form.Accepted = refl
+claims_alike (Lemma name term) word form.Proved = refl
+claims_alike (Lemma name term) word form.NotYet = refl
+claims_alike Other word answer = refl
+
+-- a form that the program answered so
+pub answered_as : (old new : History) (f : Form) (answer : FormAnswer) (event : Event) (logging : Bool) (block : List ℕ) → event ≡ event_of f
+    → IsTaken old event answer → new ≡ taken old event answer
+    → (logging ≡ true → AreBlocks old (claims_taken event answer) block) → HasSymbols new → Answered f old new (reported_as f answer) logging block
+answered_as old new f answer event logging block same is_taken after_is block_is symbols_are =
+    record {
+      step = step_after old new f answer (subst (λ (e : Event). IsTaken old e answer) same is_taken) (subst (λ (e : Event). new ≡ taken old e answer) same after_is);
+      written = λ w symbols s.
+          subst (λ (claims : List Claim). AreBlocks old claims block)
+          (claims_alike event (shown_word (word_of f)) answer ∙ ap (λ (e : Event). claims_of e (answer_of (shown_word (word_of f)) answer)) same)
+          (block_is w);
+      symbols = λ symbols s. symbols_are;
+    }
+
+-- the same, where the history is not told
+pub answered_here : (old new : History) (f : Form) (answer : FormAnswer) (event : Event) (logging : Bool) (block : List ℕ) → event ≡ event_of f
+    → IsTaken old event answer → new ≡ taken old event answer
+    → (logging ≡ true → AreBlocks old (claims_taken event answer) block) → HasSymbols new → Answered f old (after old f (answer_of (shown_word (word_of f)) answer)) (reported_as f answer) logging block
+answered_here old new f answer event logging block same is_taken after_is block_is symbols_are =
+    let whole = answered_as old new f answer event logging block same is_taken after_is block_is symbols_are in
+    subst (λ (h : History). Answered f old h (reported_as f answer) logging block) whole.step.history whole
+
+pub answered_logging : (old new : History) (f : Form) (report : Report) (logging : Bool) (block : List ℕ) → logging ≡ true → Answered f old new report logging block
+    → Answered f old new report true block
+answered_logging old new f report logging block w answered = subst (λ (b : Bool). Answered f old new report b block) w answered

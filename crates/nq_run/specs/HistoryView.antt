@@ -1,12 +1,16 @@
 -- The program's history, as the logic sees it.
-use Rattle.std.specs.Prelude.{[], map}
 use Rattle.nq_logic.specs.Histories as logic
-use Rattle.nq_run.specs.Events.{self_implication}
-use Rattle.nq_run.specs.declared.history.History.{History}
-use Rattle.nq_run.specs.declared.history.Lemma.{Lemma}
+use Rattle.nq_history.specs.Events.{events_at, HistoryStands}
+use Rattle.nq_history.specs.Marking.{AreMarked}
+use Rattle.nq_block.specs.Names.{HasSymbols}
+use Rattle.nq_run.specs.declared.session.Session.{Session}
 
-abbrev pub event_at : Lemma → logic.Event
-event_at l = logic.Lemma l.name.items [] (self_implication l.variable.items)
+abbrev pub history_of : Session → logic.History
+history_of s = events_at s.bank s.history
 
-abbrev pub history_of : History → logic.History
-history_of h = map event_at h.lemmas.items
+-- What the entries name stands in the bank, each entry keeps the mark from before its event, and a log can spell their
+-- names.
+pub record SessionStands (s : Session) : Type 0 where
+  pub history : HistoryStands s.bank s.history
+  pub marked : AreMarked s.bank s.history
+  pub symbols : HasSymbols (history_of s)

@@ -5,5 +5,8 @@ pub mod HistoryView
 pub mod Steps
 pub mod Taking
 pub mod Derived
+pub mod Claims
+pub mod Spelled
 pub mod Outcome
+pub mod Sessions
 pub mod RunFaults

@@ -1,18 +1,26 @@
--- What a sink has gained when a run ends.
-use Rattle.std.specs.Prelude.{◌≡◌, ◌⊎◌, ◌+◌, ◌^◌, ◌==◌, ℕ, List, [], ◌++◌, Option, None, Some, IfSome, IsTrue, if◌then◌else◌}
+-- What the two sinks of a run have gained when it ends: the commentary, and the log where it is written.
+use Rattle.std.specs.Prelude.{◌≡◌, ◌⊎◌, ◌+◌, ◌^◌, ◌≤◌, ◌==◌, ℕ, Bool, true, false, List, [], ◌∷◌, ◌++◌, length, Option, None, Some, IfSome, IsTrue, if◌then◌else◌}
 use Rattle.std.specs.Io.KnownBytes.{Appends, Keeps}
 use Rattle.nq_logic.specs.Histories.{History}
+use Rattle.nq_logic.specs.Classes.{without_classes}
 use Rattle.nq_form.specs.Form.{Form, Forms}
 use Rattle.nq_form.specs.Bytes.{is_closed, begins_apart}
-use Rattle.nq_form.specs.Grammar.{Items, Reads, Ending, done}
+use Rattle.nq_form.specs.Grammar.{Items, Reads, Ending, done, fault, too_long}
 use Rattle.nq_sexp.specs.Whole.{IsEnding}
 use Rattle.nq_sexp.specs.declared.fault.ReadFault.{ReadFault}
+use Rattle.nq_log.specs.States.{Claim}
+use Rattle.nq_log.specs.Logs.{Right, reading_of}
+use Rattle.nq_block.specs.Blocks.{IsBlock}
+use Rattle.nq_block.specs.Names.{HasSymbols}
+use Rattle.nq_block.specs.OpenLogs.{IsOpenLog, end_text}
 use Rattle.nq_comment.specs.Reports.{Report}
 use Rattle.nq_comment.specs.Text.{lines_of_report, rendering, report_lines}
 use Rattle.nq_comment.specs.ReportViews.{ending_of}
 use Rattle.nq_comment.specs.Totals.{Totals, totals_of, unsuccessful, with_report}
 use Rattle.nq_comment.specs.declared.report.SyntaxFault.{SyntaxFault}
+use Rattle.nq_run.specs.Claims.{claims_at, claims_from}
 use Rattle.nq_run.specs.Derived.{Reported}
+use Rattle.nq_run.specs.Spelled.{IsSpelled, AreSpelled}
 use Rattle.nq_run.specs.Steps.{Runs, Step, after}
 
 -- what is held grew by the text, or by a front part of it
@@ -21,6 +29,24 @@ pub record GrowsWithin (old new : Option (List ℕ)) (text : List ℕ) : Type 0 
   pub rest : List ℕ
   pub whole : text ≡ front ++ rest
   pub appends : Appends old new front
+
+-- what the sinks of the commentary and of the log hold
+pub record Held : Type 0 where
+  pub comment : Option (List ℕ)
+  pub log : Option (List ℕ)
+
+abbrev pub held_in : Option (List ℕ) → Option (List ℕ) → Held
+held_in comment log = record { comment = comment; log = log }
+
+-- the log grew by the text; where no log is written it is as it was
+abbrev pub Logs : Bool → Option (List ℕ) → Option (List ℕ) → List ℕ → Type 0
+Logs true held now text = Appends held now text
+Logs false held now text = now ≡ held
+
+-- the same, but perhaps by a front part alone
+abbrev pub LogsWithin : Bool → Option (List ℕ) → Option (List ℕ) → List ℕ → Type 0
+LogsWithin true held now text = GrowsWithin held now text
+LogsWithin false held now text = now ≡ held
 
 -- the text begins with these forms, and no symbol or numeral goes on behind them
 pub record Begun (text : List ℕ) (forms : Forms) : Type 0 where
@@ -33,72 +59,160 @@ pub record Begun (text : List ℕ) (forms : Forms) : Type 0 where
 -- the forms so far are those of the text, which ends here or has this fault here
 abbrev pub IsStop : List ℕ → Forms → Option (List ℕ) → Option ReadFault → Type 0
 IsStop text forms left None = Reads 500 (2 ^ 25) text forms done
-IsStop text forms left (Some fault) = IsEnding text forms left fault
+IsStop text forms left (Some why) = IsEnding text forms left why
 
--- one form was run, and the sink gained the lines of its report
-pub record Turned (form : Form) (old new : History) (before later : Totals) (held now : Option (List ℕ)) : Type 0 where
-  pub report : Report
+-- the text is a block for each of these claims, of which there is one at most
+abbrev pub AreBlocks : History → List Claim → List ℕ → Type 0
+AreBlocks h [] text = text ≡ []
+AreBlocks h (c ∷ []) text = IsBlock h c text
+AreBlocks h (c ∷ (d ∷ claims)) text = ⊥
+
+-- What a form is answered in a history: the step, and the text that it adds to the log, which is the block of what it
+-- claims wherever its names can be spelled.
+pub record Answered (form : Form) (old new : History) (report : Report) (logging : Bool) (block : List ℕ) : Type 0 where
   pub step : Step old form report new
-  pub totals : later ≡ with_report report before
-  pub text : Appends held now (lines_of_report (before.forms + 1) report)
+  pub written : logging ≡ true → HasSymbols old → IsSpelled form → AreBlocks old (claims_at form report.answer) block
+  pub symbols : HasSymbols old → IsSpelled form → HasSymbols new
 
--- the form's turn stopped in the writing of its report
-pub record WroteWithin (number : ℕ) (form : Form) (old : History) (held now : Option (List ℕ)) : Type 0 where
+-- one form was run, and the sinks gained the lines of its report and its block
+pub record Turned (logging : Bool) (form : Form) (old new : History) (before later : Totals) (count next : ℕ) (held now : Held) : Type 0 where
   pub report : Report
-  pub step : Step old form report (after old form report.answer)
-  pub text : GrowsWithin held now (lines_of_report number report)
+  pub block : List ℕ
+  pub answered : Answered form old new report logging block
+  pub totals : later ≡ with_report report before
+  pub text : Appends held.comment now.comment (lines_of_report (before.forms + 1) report)
+  pub log : Logs logging held.log now.log block
+  pub log_count : logging ≡ true → next ≡ count + length block
+
+-- the form's turn stopped in the writing of its report, or of its block behind it
+pub record WroteWithin (logging : Bool) (number : ℕ) (form : Form) (old : History) (held now : Held) : Type 0 where
+  pub report : Report
+  pub block : List ℕ
+  pub answered : Answered form old (after old form report.answer) report logging block
+  pub text : GrowsWithin held.comment now.comment (lines_of_report number report)
+  pub log : LogsWithin logging held.log now.log block
 
 -- the same, or before anything was written
-abbrev pub TurnStopped : ℕ → Form → History → Option (List ℕ) → Option (List ℕ) → Type 0
-TurnStopped number form old held now = Keeps held now ⊎ WroteWithin number form old held now
+abbrev pub TurnStopped : Bool → ℕ → Form → History → Held → Held → Type 0
+TurnStopped logging number form old held now = (Keeps held.comment now.comment × (now.log ≡ held.log)) ⊎ WroteWithin logging number form old held now
 
--- these forms were run from the ground history, and the sink gained the lines of their reports
-pub record Ran (forms : Forms) (history : History) (totals : Totals) (held now : Option (List ℕ)) : Type 0 where
+-- The form's block would bring the log to its limit, where it holds so many bytes of this run. The report was written.
+pub record FilledLog (count number : ℕ) (form : Form) (old : History) (held now : Held) : Type 0 where
+  pub report : Report
+  pub block : List ℕ
+  pub answered : Answered form old (after old form report.answer) report true block
+  pub full : 2 ^ 62 ≤ count + length block
+  pub text : Appends held.comment now.comment (lines_of_report number report)
+  pub log : now.log ≡ held.log
+
+-- the log of these forms and reports, but for its last line, wherever names can be spelled
+abbrev pub IsLogOf : Forms → List Report → History → List ℕ → Type 0
+IsLogOf forms reports history text = AreSpelled forms → IsOpenLog text (claims_from forms reports) (without_classes history) × HasSymbols history
+
+-- These forms were run from the ground history, and the sinks gained the lines of their reports, and the log with its first
+-- line, of so many bytes.
+pub record Ran (logging : Bool) (forms : Forms) (history : History) (totals : Totals) (count : ℕ) (held now : Held) : Type 0 where
   pub reports : List Report
   pub runs : Runs [] forms reports history
   pub counted : totals ≡ totals_of reports
-  pub text : Appends held now (report_lines reports)
+  pub text : Appends held.comment now.comment (report_lines reports)
+  pub log : List ℕ
+  pub logs : Logs logging held.log now.log log
+  pub log_is : logging ≡ true → IsLogOf forms reports history log
+  pub log_count : logging ≡ true → count ≡ length log
 
-abbrev pub WasRun : Forms → Totals → Option (List ℕ) → Option (List ℕ) → Type 0
-WasRun forms totals held now = (history : History) × Ran forms history totals held now
+-- these forms were run from the ground history, with such a history at the end
+abbrev pub WasRun : Bool → Forms → Totals → ℕ → Held → Held → Type 0
+WasRun logging forms totals count held now = (history : History) × Ran logging forms history totals count held now
 
--- the whole text was read, and the sink gained the whole commentary
-pub record Finished (left : Option (List ℕ)) (ending : Ending) (reports : List Report) (held now : Option (List ℕ)) : Type 0 where
+-- the last line of the log, where the whole text was run
+abbrev pub last_text : Ending → List ℕ
+last_text done = end_text
+last_text (fault code offset) = []
+last_text too_long = []
+
+-- the log of a run that came to the end of its text: a right log with the claims of its forms, or, where the spelling of
+-- the text is wrong, one without its last line
+abbrev pub IsFinishedLog : Ending → Forms → List Report → List ℕ → Type 0
+IsFinishedLog done forms reports log = reading_of log ≡ record { claims = claims_from forms reports; ending = Right }
+IsFinishedLog (fault code offset) forms reports log = (history : History) × IsOpenLog log (claims_from forms reports) history
+IsFinishedLog too_long forms reports log = ⊥
+
+-- the log gained such a text; where no log is written it is as it was
+pub record FinishedLog (logging : Bool) (ending : Ending) (forms : Forms) (reports : List Report) (held now : Option (List ℕ)) : Type 0 where
+  pub log : List ℕ
+  pub logs : Logs logging held now log
+  pub log_is : logging ≡ true → IsFinishedLog ending forms reports log
+
+-- the log gained a front part of a log with these claims, which has no last line
+pub record PartialLog (logging : Bool) (forms : Forms) (reports : List Report) (held now : Option (List ℕ)) : Type 0 where
+  pub log : List ℕ
+  pub history : History
+  pub logs : LogsWithin logging held now log
+  pub log_is : logging ≡ true → IsOpenLog log (claims_from forms reports) history
+
+-- the same, and perhaps a front part of the last line behind it
+pub record PartialEnd (logging : Bool) (ending : Ending) (forms : Forms) (reports : List Report) (held now : Option (List ℕ)) : Type 0 where
+  pub log : List ℕ
+  pub history : History
+  pub logs : LogsWithin logging held now (log ++ last_text ending)
+  pub log_is : logging ≡ true → IsOpenLog log (claims_from forms reports) history
+
+-- the whole text was read, and the sinks gained the whole commentary and the whole log
+pub record Finished (logging : Bool) (left : Option (List ℕ)) (ending : Ending) (reports : List Report) (held now : Held) : Type 0 where
   pub forms : Forms
   pub reads : IfSome left (λ text. Reads 500 (2 ^ 25) text forms ending)
   pub reported : Reported forms reports
-  pub text : Appends held now (rendering reports ending)
+  pub text : Appends held.comment now.comment (rendering reports ending)
+  pub log : IfSome left (λ text. FinishedLog logging ending forms reports held.log now.log)
+  pub no_log : logging ≡ false → now.log ≡ held.log
 
--- reading stopped by this fault, with so many bytes left in the source, and the sink gained the lines of the reports so far
-pub record Halted (start left : Option (List ℕ)) (fault : ReadFault) (held now : Option (List ℕ)) : Type 0 where
+-- reading stopped by this fault, with so many bytes left in the source, and the sinks gained the lines of the reports so far
+-- and the log so far
+pub record Halted (logging : Bool) (start left : Option (List ℕ)) (why : ReadFault) (held now : Held) : Type 0 where
   pub forms : Forms
-  pub reads : IfSome start (λ text. IsEnding text forms left fault)
+  pub reads : IfSome start (λ text. IsEnding text forms left why)
   pub reports : List Report
   pub reported : Reported forms reports
-  pub text : Appends held now (report_lines reports)
+  pub text : Appends held.comment now.comment (report_lines reports)
+  pub log : IfSome start (λ text. PartialLog logging forms reports held.log now.log)
 
--- some forms were run, and the sink gained a front part of their lines
-pub record Interrupted (left : Option (List ℕ)) (held now : Option (List ℕ)) : Type 0 where
+-- the log is full: with the next block, or with its last line, it would have 2^62 bytes
+pub record Full (left : Option (List ℕ)) (held now : Held) : Type 0 where
   pub forms : Forms
   pub begins : IfSome left (λ text. Begun text forms)
   pub reports : List Report
   pub reported : Reported forms reports
-  pub text : GrowsWithin held now (report_lines reports)
+  pub text : Appends held.comment now.comment (report_lines reports)
+  pub written : List ℕ
+  pub next : List ℕ
+  pub logs : Appends held.log now.log written
+  pub full : 2 ^ 62 ≤ length (written ++ next)
 
--- All forms were run, to the end of the text or to a fault of its spelling, and the sink gained a front part of the whole
--- commentary.
-pub record CutOff (left : Option (List ℕ)) (held now : Option (List ℕ)) : Type 0 where
+-- some forms were run, and the sinks gained a front part of their lines and of their log
+pub record Interrupted (logging : Bool) (left : Option (List ℕ)) (held now : Held) : Type 0 where
   pub forms : Forms
-  pub fault : Option SyntaxFault
-  pub reads : IfSome left (λ text. Reads 500 (2 ^ 25) text forms (ending_of fault))
+  pub begins : IfSome left (λ text. Begun text forms)
   pub reports : List Report
   pub reported : Reported forms reports
-  pub text : GrowsWithin held now (rendering reports (ending_of fault))
+  pub text : GrowsWithin held.comment now.comment (report_lines reports)
+  pub log : IfSome left (λ text. PartialLog logging forms reports held.log now.log)
 
-abbrev pub Stopped : Option (List ℕ) → Option (List ℕ) → Option (List ℕ) → Type 0
-Stopped left held now = Interrupted left held now ⊎ CutOff left held now
+-- All forms were run, to the end of the text or to a fault of its spelling, and the sinks gained a front part of the whole
+-- commentary and of the whole log.
+pub record CutOff (logging : Bool) (left : Option (List ℕ)) (held now : Held) : Type 0 where
+  pub forms : Forms
+  pub spelling : Option SyntaxFault
+  pub reads : IfSome left (λ text. Reads 500 (2 ^ 25) text forms (ending_of spelling))
+  pub reports : List Report
+  pub reported : Reported forms reports
+  pub text : GrowsWithin held.comment now.comment (rendering reports (ending_of spelling))
+  pub log : IfSome left (λ text. PartialEnd logging (ending_of spelling) forms reports held.log now.log)
+
+abbrev pub Stopped : Bool → Option (List ℕ) → Held → Held → Type 0
+Stopped logging left held now = Interrupted logging left held now ⊎ CutOff logging left held now
 
 -- the status of a run that came to the end of its text, or to a fault of its spelling
 abbrev pub status_of : Option SyntaxFault → Totals → ℕ
 status_of None totals = if unsuccessful totals == 0 then 0 else 1
-status_of (Some fault) totals = 3
+status_of (Some f) totals = 3

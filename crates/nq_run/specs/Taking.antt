@@ -1,5 +1,6 @@
 -- How the program answers an event, and its history afterwards.
-use Rattle.std.specs.Prelude.{◌≡◌, true, false, [], ◌∷◌, ◌++◌, ⊤}
+use Rattle.std.specs.Prelude.{◌≡◌, true, false, List, [], ◌∷◌, ◌++◌, ⊤}
+use Rattle.nq_log.specs.States.{Claim, Grounded, Adds}
 use Rattle.nq_logic.specs.Histories.{History}
 use Rattle.nq_logic.specs.Histories as logic
 use Rattle.nq_comment.specs.declared.answer.FormAnswer.{FormAnswer}
@@ -25,3 +26,9 @@ taken old (Lemma name term) form.Accepted = old
 taken old (Lemma name term) form.Proved = old ++ logic.Lemma name [] term ∷ []
 taken old (Lemma name term) form.NotYet = old
 taken old Other answer = old
+
+-- what an event claims that the program answers so
+abbrev pub claims_taken : Event → FormAnswer → List Claim
+claims_taken BootStrap form.Accepted = Grounded ∷ []
+claims_taken (Lemma name term) form.Proved = Adds (logic.Lemma name [] term) ∷ []
+claims_taken event answer = []

@@ -7,8 +7,8 @@
 mod event;
 mod form;
 mod header;
-mod history;
-mod names;
+mod outputs;
 mod runs;
+mod session;
 
 pub use runs::{Ended, RunFault, run_events};

@@ -1,5 +1,5 @@
 // The run of an event file: each form is run as it is read.
-ghost use Rattle.std.specs.Prelude.{◌≡◌, ◌≤◌, ◌<◌, ◌+◌, ◌^◌, ◌⊎◌, ◌++◌, ℕ, List, Option, Some, None, Ok, Err, IfOk, IfSome, OnOk, OnErr};
+ghost use Rattle.std.specs.Prelude.{◌≡◌, ◌≤◌, ◌<◌, ◌+◌, ◌^◌, ◌⊎◌, ◌++◌, ℕ, List, Option, Some, None, Ok, Err, IfOk, IfSome, OnOk, OnErr, [], true, false, length};
 ghost use Rattle.std.specs.Io.KnownBytes.{Appends, Keeps};
 ghost use Rattle.nq_io.specs.Faults.{Rose};
 ghost use Rattle.nq_form.specs.Form.{Forms};
@@ -9,27 +9,36 @@ ghost use Rattle.nq_comment.specs.ReportViews.{ending_of};
 ghost use Rattle.nq_comment.specs.Reports.{Report};
 ghost use Rattle.nq_comment.specs.Text.{closing_lines};
 ghost use Rattle.nq_comment.specs.Totals.{totals_in, totals_of};
-ghost use Rattle.nq_run.specs.HistoryView.{history_of};
-ghost use Rattle.nq_run.specs.Outcome.{Begun, Finished, GrowsWithin, Halted, Interrupted, IsStop, Stopped, Turned, TurnStopped, WasRun, status_of};
+ghost use Rattle.nq_block.specs.OpenLogs.{header_text};
+ghost use Rattle.nq_run.specs.HistoryView.{history_of, SessionStands};
+ghost use Rattle.nq_run.specs.Outcome.{Begun, FilledLog, Finished, Full, GrowsWithin, Halted, Interrupted, IsStop, Logs, LogsWithin, Stopped, Turned, TurnStopped, WasRun, held_in, last_text, status_of};
 ghost use Rattle.nq_run.specs.RunFaults.{fault_status};
+ghost use Rattle.nq_run.specs.Spelled.{IsSpelled};
 
 use crate::event::event_of;
 use crate::header::{name_of, word_of};
-use crate::history::History;
+use crate::outputs::{LogSoFar, write_text};
+use crate::session::Session;
 use bumpalo::Bump;
 use nq_comment::{Counts, FormReport, SyntaxFault, render_closing, render_report};
-use nq_io::{Sink, SinkFault, Source};
+use nq_io::{Sink, Source};
 use nq_sexp::{ReadFault, Reader, Sexp};
 use std::alloc::Global;
+
+/// The first line of a log.
+const LOG_HEADER: &[u8] = b"NQTHM-LOG 1\n";
+
+/// The last line of a log.
+const LOG_END: &[u8] = b"END\n";
 
 /// Why a run stopped before the end of its file.
 #[derive(Clone, Copy, Debug, PartialEq, Eq)]
 pub enum RunFault {
     /// The source could not be read.
     Read,
-    /// The sink could not be written.
+    /// A sink could not be written.
     Write,
-    /// The file has more than 2^25 bytes.
+    /// The file has more than 2^25 bytes, or the log would reach 2^62.
     TooLong,
     /// Memory is wanting.
     Memory,
@@ -70,41 +79,57 @@ impl Ended {
     }
 }
 
+/// What was counted so far: the forms by their answers, and the bytes of the log.
+#[derive(Clone, Copy)]
+struct Progress {
+    counts: Counts,
+    log: LogSoFar,
+}
+
 /// Where the reading of forms stopped, and what was counted before.
 #[derive(Clone, Copy)]
 struct Walked {
-    counts: Counts,
+    progress: Progress,
     stop: Option<ReadFault>,
 }
 
-/// Runs the forms of the source from the ground history, each as it is read, and writes the
-/// commentary: each report by one write, and then the closing lines by one.
-pub fn run_events<S: Source, O: Sink>(
+/// Runs the forms of the source from the ground history, each as it is read, and writes the commentary: each report by one
+/// write, and then the closing lines by one. With `logging` it writes the log too: its first line, the block of each event
+/// that was accepted, proved or undone, and its last line once the whole file was run; else `log` is left alone. Each event
+/// may take so many steps.
+pub fn run_events<S: Source, O: Sink, L: Sink>(
     alloc: Global,
     src: &mut S,
-    out: &mut O,
+    comment: &mut O,
+    log: &mut L,
+    logging: bool,
+    steps: u64,
 ) -> Result<Ended, RunFault>
-    // The whole commentary was written.
+    // The whole commentary was written, and the whole log.
     ensures finished { IfOk result (λ ended. (reports : List Report)
-        × Finished (S.left src.old) (ending_of ended.fault) reports (O.written out.old) (O.written out.new)
+        × Finished logging (S.left src.old) (ending_of ended.fault) reports (held_in (O.written comment.old) (L.written log.old)) (held_in (O.written comment.new) (L.written log.new))
         × (totals_in ended.counts ≡ totals_of reports)) }
 
     // The lines of all forms that stand whole in the bytes taken were written.
     ensures read { result ≡ Err RunFault.Read
-        → Halted (S.left src.old) (S.left src.new) ReadFault.Read (O.written out.old) (O.written out.new) }
+        → Halted logging (S.left src.old) (S.left src.new) ReadFault.Read (held_in (O.written comment.old) (L.written log.old)) (held_in (O.written comment.new) (L.written log.new)) }
     ensures too_long { result ≡ Err RunFault.TooLong
-        → Halted (S.left src.old) (S.left src.new) ReadFault.FileTooLong (O.written out.old) (O.written out.new) }
+        → Halted logging (S.left src.old) (S.left src.new) ReadFault.FileTooLong (held_in (O.written comment.old) (L.written log.old)) (held_in (O.written comment.new) (L.written log.new))
+        ⊎ ((logging ≡ true) × Full (S.left src.old) (held_in (O.written comment.old) (L.written log.old)) (held_in (O.written comment.new) (L.written log.new))) }
 
-    // After any fault a front part of such lines, or of a whole commentary, was written.
-    ensures stopped { OnErr result (Stopped (S.left src.old) (O.written out.old) (O.written out.new)) }
+    // After any fault a front part of such lines, or of a whole commentary, was written, and of their log.
+    ensures stopped { OnErr result (Stopped logging (S.left src.old) (held_in (O.written comment.old) (L.written log.old)) (held_in (O.written comment.new) (L.written log.new))) }
 
     // A fault of a stream has its cause.
     ensures source { result ≡ Err RunFault.Read → Rose (S.faults src.old) (S.faults src.new) }
-    ensures sink { result ≡ Err RunFault.Write → Rose (O.faults out.old) (O.faults out.new) }
+    ensures sink { result ≡ Err RunFault.Write → Rose (O.faults comment.old) (O.faults comment.new) ⊎ Rose (L.faults log.old) (L.faults log.new) }
+
+    // Where no log is written, its sink is left alone.
+    ensures alone { logging ≡ false → log.new ≡ log.old }
 {
-    let walked = run_forms(alloc, src, out)?;
+    let walked = run_forms(alloc, src, comment, log, logging, steps)?;
     match fault_of(walked.stop) {
-        Ok(fault) => finish(alloc, fault, walked.counts, out),
+        Ok(fault) => finish(alloc, fault, walked.progress, comment, log),
         Err(fault) => Err(fault),
     }
 }
@@ -129,40 +154,86 @@ fn fault_of(stop: Option<ReadFault>) -> Result<Option<SyntaxFault>, RunFault>
     }
 }
 
-/// Runs the forms as they are read, and writes a report for each.
-fn run_forms<S: Source, O: Sink>(
-    alloc: Global,
-    src: &mut S,
-    out: &mut O,
-) -> Result<Walked, RunFault>
-    ensures walked { IfOk result (λ walked. (forms : Forms)
-        × WasRun forms (totals_in walked.counts) (O.written out.old) (O.written out.new)
-        × IfSome (S.left src.old) (λ text. Begun text forms)
-        × IfSome (S.left src.old) (λ text. IsStop text forms (S.left src.new) walked.stop)) }
-    ensures read { IfOk result (λ walked. walked.stop ≡ Some ReadFault.Read
-        → Rose (S.faults src.old) (S.faults src.new)) }
-    ensures stopped { OnErr result (Interrupted (S.left src.old) (O.written out.old) (O.written out.new)) }
-    ensures write { result ≡ Err RunFault.Write → Rose (O.faults out.old) (O.faults out.new) }
-    ensures later { O.faults out.old ≤ O.faults out.new }
+/// Writes the first line of the log.
+fn begin<L: Sink>(log: &mut L, logging: bool) -> Result<LogSoFar, RunFault>
+    ensures ok { OnOk result (Logs logging (L.written log.old) (L.written log.new) header_text) }
+    ensures same { IfOk result (λ begun. begun.logging ≡ logging) }
+    ensures count { IfOk result (λ begun. logging ≡ true → begun.count ≡ length header_text) }
+    ensures bound { IfOk result (λ begun. begun.count < 2 ^ 62) }
+    ensures err { OnErr result (LogsWithin logging (L.written log.old) (L.written log.new) header_text) }
+    ensures write { result ≡ Err RunFault.Write → Rose (L.faults log.old) (L.faults log.new) }
+    ensures later { L.faults log.old ≤ L.faults log.new }
     ensures no_read { result ≡ Err RunFault.Read → ⊥ }
     ensures no_length { result ≡ Err RunFault.TooLong → ⊥ }
+    ensures alone { logging ≡ false → log.new ≡ log.old }
+{
+    let nothing = LogSoFar { logging, count: 0 };
+    nothing.append(log, LOG_HEADER)
+}
+
+/// Runs the forms as they are read, and writes a report for each, and a block for what it claims.
+fn run_forms<S: Source, O: Sink, L: Sink>(
+    alloc: Global,
+    src: &mut S,
+    comment: &mut O,
+    log: &mut L,
+    logging: bool,
+    steps: u64,
+) -> Result<Walked, RunFault>
+    ensures walked { IfOk result (λ walked. (forms : Forms)
+        × WasRun logging forms (totals_in walked.progress.counts) walked.progress.log.count (held_in (O.written comment.old) (L.written log.old)) (held_in (O.written comment.new) (L.written log.new))
+        × IfSome (S.left src.old) (λ text. Begun text forms)
+        × IfSome (S.left src.old) (λ text. IsStop text forms (S.left src.new) walked.stop)) }
+    ensures logging { IfOk result (λ walked. walked.progress.log.logging ≡ logging) }
+    ensures bound { IfOk result (λ walked. walked.progress.log.count < 2 ^ 62) }
+    ensures read { IfOk result (λ walked. walked.stop ≡ Some ReadFault.Read
+        → Rose (S.faults src.old) (S.faults src.new)) }
+    ensures full { result ≡ Err RunFault.TooLong → (logging ≡ true) × Full (S.left src.old) (held_in (O.written comment.old) (L.written log.old)) (held_in (O.written comment.new) (L.written log.new)) }
+    ensures stopped { OnErr result (Interrupted logging (S.left src.old) (held_in (O.written comment.old) (L.written log.old)) (held_in (O.written comment.new) (L.written log.new))) }
+    ensures write { result ≡ Err RunFault.Write → Rose (O.faults comment.old) (O.faults comment.new) ⊎ Rose (L.faults log.old) (L.faults log.new) }
+    ensures later_comment { O.faults comment.old ≤ O.faults comment.new }
+    ensures later_log { L.faults log.old ≤ L.faults log.new }
+    ensures no_read { result ≡ Err RunFault.Read → ⊥ }
+    ensures alone { logging ≡ false → log.new ≡ log.old }
 {
     let mut arena = Bump::new(alloc);
     let mut reader = Reader::new(alloc);
-    let mut history = History::new(alloc);
-    let mut counts = Counts::zero();
+    let mut session = ground_session(alloc)?;
+    let mut progress = Progress {
+        counts: Counts::zero(),
+        log: begin(log, logging)?,
+    };
     loop {
         match reader.next(&arena, src) {
-            Ok(Some(form)) => counts = turn(alloc, &mut history, counts, &form, out)?,
-            Ok(None) => return Ok(Walked { counts, stop: None }),
+            Ok(Some(form)) => {
+                let turn = turn(alloc, session, progress, &form, comment, log, steps)?;
+                session = turn.session;
+                progress = turn.progress;
+            }
+            Ok(None) => return Ok(Walked {
+                progress,
+                stop: None,
+            }),
             Err(fault) => {
                 return Ok(Walked {
-                    counts,
+                    progress,
                     stop: Some(fault),
                 });
             }
         }
         arena = cleared(alloc, arena);
+    }
+}
+
+/// A run's history before the first form.
+fn ground_session(alloc: Global) -> Result<Session, RunFault>
+    ensures none { IfOk result (λ s. history_of s ≡ []) }
+    ensures stands { IfOk result SessionStands }
+    ensures only { OnErr result (result ≡ Err RunFault.Memory) }
+{
+    match Session::ground(alloc) {
+        Ok(session) => Ok(session),
+        Err(_) => Err(RunFault::Memory),
     }
 }
 
@@ -174,77 +245,114 @@ fn cleared(alloc: Global, mut arena: Bump) -> Bump {
     }
 }
 
-/// Runs one form, and writes its report by one write.
-fn turn<O: Sink>(
+/// The history and what was counted after one form more.
+#[derive(Drop)]
+struct Advanced {
+    session: Session,
+    progress: Progress,
+}
+
+/// Runs one form, writes its report by one write, and behind it its block to the log.
+fn turn<O: Sink, L: Sink>(
     alloc: Global,
-    history: &mut History,
-    counts: Counts,
+    session: Session,
+    progress: Progress,
     form: &Sexp<'_>,
-    out: &mut O,
-) -> Result<Counts, RunFault>
-    requires { counts.forms + 1 < 2 ^ 64 }
-    ensures turned { IfOk result (λ later. Turned (tree form.now) (history_of history.old)
-        (history_of history.new) (totals_in counts) (totals_in later)
-        (O.written out.old) (O.written out.new)) }
-    ensures stopped { OnErr result (TurnStopped (counts.forms + 1) (tree form.now)
-        (history_of history.old) (O.written out.old) (O.written out.new)) }
-    ensures write { result ≡ Err RunFault.Write → Rose (O.faults out.old) (O.faults out.new) }
-    ensures later { O.faults out.old ≤ O.faults out.new }
+    comment: &mut O,
+    log: &mut L,
+    steps: u64,
+) -> Result<Advanced, RunFault>
+    requires stands { SessionStands session }
+    requires spelled { IsSpelled (tree form.now) }
+    requires number { progress.counts.forms + 1 < 2 ^ 64 }
+    requires within { progress.log.count < 2 ^ 62 }
+    ensures turned { IfOk result (λ turn. Turned progress.log.logging (tree form.now) (history_of session)
+        (history_of turn.session) (totals_in progress.counts) (totals_in turn.progress.counts) progress.log.count turn.progress.log.count
+        (held_in (O.written comment.old) (L.written log.old)) (held_in (O.written comment.new) (L.written log.new))) }
+    ensures stands { IfOk result (λ turn. SessionStands turn.session) }
+    ensures same { IfOk result (λ turn. turn.progress.log.logging ≡ progress.log.logging) }
+    ensures bound { IfOk result (λ turn. turn.progress.log.count < 2 ^ 62) }
+    ensures full { result ≡ Err RunFault.TooLong → (progress.log.logging ≡ true) × FilledLog progress.log.count (progress.counts.forms + 1) (tree form.now) (history_of session)
+        (held_in (O.written comment.old) (L.written log.old)) (held_in (O.written comment.new) (L.written log.new)) }
+    ensures stopped { OnErr result (TurnStopped progress.log.logging (progress.counts.forms + 1) (tree form.now)
+        (history_of session) (held_in (O.written comment.old) (L.written log.old)) (held_in (O.written comment.new) (L.written log.new))) }
+    ensures write { result ≡ Err RunFault.Write → Rose (O.faults comment.old) (O.faults comment.new) ⊎ Rose (L.faults log.old) (L.faults log.new) }
+    ensures later_comment { O.faults comment.old ≤ O.faults comment.new }
+    ensures later_log { L.faults log.old ≤ L.faults log.new }
     ensures no_read { result ≡ Err RunFault.Read → ⊥ }
-    ensures no_length { result ≡ Err RunFault.TooLong → ⊥ }
+    ensures alone { progress.log.logging ≡ false → log.new ≡ log.old }
 {
-    let answer = match history.take(alloc, &event_of(form)) {
-        Ok(answer) => answer,
+    let taken = match session.take(alloc, &event_of(form), progress.log.logging, steps) {
+        Ok(taken) => taken,
         Err(_) => return Err(RunFault::Memory),
     };
     let report = FormReport {
         word: word_of(form),
         name: name_of(form),
-        answer,
+        answer: taken.answer,
     };
-    let text = match render_report(alloc, counts.forms + 1, &report) {
+    let text = match render_report(alloc, progress.counts.forms + 1, &report) {
         Ok(text) => text,
         Err(_) => return Err(RunFault::Memory),
     };
-    match out.write_all(text.as_slice()) {
-        Ok(()) => Ok(counts.with(answer.kind())),
-        Err(fault) => Err(fault_from(fault)),
+    write_text(comment, text.as_slice())?;
+    if progress.log.is_full_with(taken.block.as_slice()) {
+        return Err(RunFault::TooLong);
     }
+    let log = progress.log.append(log, taken.block.as_slice())?;
+    Ok(Advanced {
+        session: taken.session,
+        progress: Progress {
+            counts: progress.counts.with(taken.answer.kind()),
+            log,
+        },
+    })
 }
 
-/// Writes the closing lines.
-fn finish<O: Sink>(
-    alloc: Global,
-    fault: Option<SyntaxFault>,
-    counts: Counts,
-    out: &mut O,
-) -> Result<Ended, RunFault>
-    ensures ended { IfOk result (λ ended. (ended.counts ≡ counts) × (ended.fault ≡ fault)) }
-    ensures ok { OnOk result (Appends (O.written out.old) (O.written out.new)
-        (closing_lines (ending_of fault) (totals_in counts))) }
-    ensures err { OnErr result (GrowsWithin (O.written out.old) (O.written out.new)
-        (closing_lines (ending_of fault) (totals_in counts))) }
-    ensures write { result ≡ Err RunFault.Write → Rose (O.faults out.old) (O.faults out.new) }
-    ensures no_read { result ≡ Err RunFault.Read → ⊥ }
-    ensures no_length { result ≡ Err RunFault.TooLong → ⊥ }
-{
-    let text = match render_closing(alloc, fault, counts) {
-        Ok(text) => text,
-        Err(_) => return Err(RunFault::Memory),
-    };
-    match out.write_all(text.as_slice()) {
-        Ok(()) => Ok(Ended { counts, fault }),
-        Err(fault) => Err(fault_from(fault)),
-    }
-}
-
-fn fault_from(fault: SinkFault) -> RunFault
-    ensures write { result ≡ RunFault.Write → fault ≡ SinkFault.Failed }
-    ensures no_read { result ≡ RunFault.Read → ⊥ }
-    ensures no_length { result ≡ RunFault.TooLong → ⊥ }
+/// The last line of the log, where the whole file was run.
+fn last_line(fault: Option<SyntaxFault>) -> &'static [u8]
+    ensures { result.now ≡ last_text (ending_of fault) }
 {
     match fault {
-        SinkFault::Failed => RunFault::Write,
-        SinkFault::Memory => RunFault::Memory,
+        None => LOG_END,
+        Some(_) => b"".as_slice(),
     }
+}
+
+/// Writes the closing lines, and the last line of the log where the whole file was run.
+fn finish<O: Sink, L: Sink>(
+    alloc: Global,
+    fault: Option<SyntaxFault>,
+    progress: Progress,
+    comment: &mut O,
+    log: &mut L,
+) -> Result<Ended, RunFault>
+    requires within { progress.log.count < 2 ^ 62 }
+    ensures ended { IfOk result (λ ended. (ended.counts ≡ progress.counts) × (ended.fault ≡ fault)) }
+    ensures ok { OnOk result (Appends (O.written comment.old) (O.written comment.new)
+        (closing_lines (ending_of fault) (totals_in progress.counts))) }
+    ensures log_ok { OnOk result (Logs progress.log.logging (L.written log.old) (L.written log.new) (last_text (ending_of fault))) }
+    ensures err { OnErr result (GrowsWithin (O.written comment.old) (O.written comment.new)
+        (closing_lines (ending_of fault) (totals_in progress.counts))) }
+    ensures log_err { OnErr result (LogsWithin progress.log.logging (L.written log.old) (L.written log.new) (last_text (ending_of fault))) }
+    ensures full { result ≡ Err RunFault.TooLong → (progress.log.logging ≡ true) × (2 ^ 62 ≤ progress.log.count + length (last_text (ending_of fault)))
+        × Keeps (O.written comment.old) (O.written comment.new) × (L.written log.new ≡ L.written log.old) }
+    ensures write { result ≡ Err RunFault.Write → Rose (O.faults comment.old) (O.faults comment.new) ⊎ Rose (L.faults log.old) (L.faults log.new) }
+    ensures no_read { result ≡ Err RunFault.Read → ⊥ }
+    ensures alone { progress.log.logging ≡ false → log.new ≡ log.old }
+{
+    let last = last_line(fault);
+    if progress.log.is_full_with(last) {
+        return Err(RunFault::TooLong);
+    }
+    let text = match render_closing(alloc, fault, progress.counts) {
+        Ok(text) => text,
+        Err(_) => return Err(RunFault::Memory),
+    };
+    write_text(comment, text.as_slice())?;
+    progress.log.append(log, last)?;
+    Ok(Ended {
+        counts: progress.counts,
+        fault,
+    })
 }

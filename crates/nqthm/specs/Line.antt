@@ -13,5 +13,7 @@ runner name = with_rule (new_app name) steps_rule
 abbrev pub program : App
 program = let app = new_app (codes "nqthm") in record app { top = record app.top { subcommand_required = true } }
 
+-- `run` and `log`, each with a number of steps, and `check`
 abbrev pub command_line : App
-command_line = with_subcommand program (runner (codes "run")).top
+command_line =
+    with_subcommand (with_subcommand (with_subcommand program (runner (codes "run")).top) (runner (codes "log")).top) (new_app (codes "check")).top

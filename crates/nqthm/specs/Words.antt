@@ -1,13 +1,13 @@
 -- Which command the words ask for.
-use Rattle.std.specs.Prelude.{◌≤◌, ℕ, List, [], ◌∷◌, Option, Some, None, codes, if◌then◌else◌}
-use Rattle.std.specs.Option.{option_and_then, option_map_or}
+use Rattle.std.specs.Prelude.{◌≤◌, ℕ, List, [], ◌∷◌, Option, Some, None, codes, if◌then◌else◌, ⊤}
+use Rattle.std.specs.Option.{option_and_then, option_map, option_map_or}
 use Rattle.std.specs.Str.{bytes_eq}
 use Rattle.std.specs.Str.Parse.{digits_value, without_leading_plus}
 use Rattle.clap.specs.ValueTests.{is_unsigned_in}
 use Rattle.clap.specs.Words.{Row, Text, Kinds, fault_of, first_of, subcommand_of}
 use Rattle.nqthm.specs.Line.{command_line}
 use Rattle.nqthm.specs.declared.words.Command.{Command}
-use Rattle.nqthm.specs.declared.words.Command.TheVariants.{Run}
+use Rattle.nqthm.specs.declared.words.Command.TheVariants.{Run, Log, Check}
 
 -- a number of steps as Rust reads a number of 64 bits, with a plus before it or none: from one to fifty million
 abbrev pub steps_of : Text → Option ℕ
@@ -19,7 +19,11 @@ abbrev pub steps_at : List Row → Option ℕ
 steps_at rows = option_map_or steps_of (first_of (codes "steps") rows) (Some 2000000)
 
 abbrev pub asked_by : Text → List Row → Option Command
-asked_by name rows = if bytes_eq name (codes "run") then option_and_then (λ n. Some (Run n)) (steps_at rows) else None
+asked_by name rows =
+    if bytes_eq name (codes "run") then option_map Run (steps_at rows)
+    else if bytes_eq name (codes "log") then option_map Log (steps_at rows)
+    else if bytes_eq name (codes "check") then Some Check
+    else None
 
 abbrev pub if_faultless : {A : Type 0} → Kinds → Option A → Option A
 if_faultless [] value = value
@@ -31,9 +35,11 @@ abbrev pub command_of : List Text → Option Command
 command_of words = if_faultless (fault_of command_line words)
     (option_and_then (λ p. asked_by p.0 p.1) (subcommand_of command_line words))
 
--- the number of steps that a command gives each event
-abbrev pub limit_of : Command → ℕ
-limit_of (Run steps) = steps
-
 abbrev pub IsStepLimit : ℕ → Type 0
 IsStepLimit steps = (1 ≤ steps) × (steps ≤ 50000000)
+
+-- the number of steps that a command gives each event is in its range
+abbrev pub IsLimited : Command → Type 0
+IsLimited (Run steps) = IsStepLimit steps
+IsLimited (Log steps) = IsStepLimit steps
+IsLimited Check = ⊤

@@ -5,20 +5,16 @@
 //! each status has its cause.
 #![tactic(auto)]
 
-ghost use Rattle.std.specs.Prelude.{◌≡◌, ◌≤◌, ◌<◌, ◌^◌, ◌⊎◌, IfSome, IsSome, ℕ, List, None, map, codes, string_bytes};
+ghost use Rattle.std.specs.Prelude.{◌≡◌, ◌≤◌, ◌⊎◌, ℕ, Some, None, false, true, map, string_bytes};
 ghost use Rattle.std.specs.Io.KnownBytes.{Appends};
 ghost use Rattle.nq_io.specs.Faults.{Rose};
-ghost use Rattle.nq_form.specs.Form.{Forms};
-ghost use Rattle.nq_form.specs.Grammar.{Ending, Reads, done, fault};
-ghost use Rattle.nq_comment.specs.Reports.{Report};
-ghost use Rattle.nq_comment.specs.Totals.{totals_of, unsuccessful};
-ghost use Rattle.nq_run.specs.Outcome.{Finished, GrowsWithin, Halted, Stopped};
-ghost use Rattle.nq_sexp.specs.declared.fault.ReadFault.TheVariants.{FileTooLong, Read};
-ghost use Rattle.nqthm.specs.Statuses.{IsStatusOf};
+ghost use Rattle.nq_run.specs.Outcome.{GrowsWithin, held_in};
+ghost use Rattle.nqthm.specs.Commands.{HasChecked, HasRun, check_status};
 ghost use Rattle.nqthm.specs.Words.{command_of};
 
 mod words;
 
+use nq_check::{CheckFault, Checked, check};
 use nq_io::{Sink, SinkFault, Source};
 use nq_run::run_events;
 use std::alloc::Global;
@@ -36,22 +32,24 @@ const FAILED_WRITE: u8 = 5;
 /// The status where memory is wanting.
 const NO_MEMORY: u8 = 6;
 
-/// The whole program: reads the words, of which the first is the program's name, runs the command,
-/// and gives the status to end with. `run` reads an event file from `src` and writes its commentary
-/// to `out`.
+/// The whole program: reads the words, of which the first is the program's name, runs the command, and gives the status to
+/// end with. `run` reads an event file from `src` and writes its commentary to `out`; `log` does the same, writes the log of
+/// its proofs to `out` and the commentary to `side`; `check` reads a log from `src`, and writes its claims and the verdict to
+/// `out`.
 ///
-/// - 0: the file was read to its end, and no form was refused or failed.
-/// - 1: the file was read to its end, and some form was refused or failed.
+/// - 0: the file was read to its end, and no form was refused or failed; the input is a right log.
+/// - 1: the file was read to its end, and some form was refused or failed; the input is no right log.
 /// - 2: the words are not those of a command.
 /// - 3: the spelling of the file is wrong.
 /// - 4: `src` could not be read.
 /// - 5: `out` or `side` could not be written.
 /// - 6: memory is wanting.
-/// - 7: the file has more than 2^25 bytes.
+/// - 7: the file has more than 2^25 bytes; a log would reach 2^62 bytes, or has more.
 ///
-/// In `Finished`, `Halted` and `Stopped` each lemma reported as proved is derivable in the history
-/// before it.
-#[tactic(auto, using(crate::proofs::Endings::untouched_stopped, crate::proofs::Endings::within_none))]
+/// In each outcome of `run` and `log` a lemma reported as proved is derivable in the history before it, and the log that was
+/// written to its end is right. In each outcome of `check` a claim that was written holds in the history of the claims before
+/// it.
+#[tactic(auto, using(crate::proofs::Endings::untouched_checked))]
 pub fn nqthm<S: Source, O: Sink, E: Sink>(
     alloc: Global,
     words: Vec<String>,
@@ -69,31 +67,16 @@ pub fn nqthm<S: Source, O: Sink, E: Sink>(
     ensures usage { result ≡ 2 → Appends (E.written side.old) (E.written side.new) USAGE.now }
     ensures front { command_of (map string_bytes words.items) ≡ None
         → GrowsWithin (E.written side.old) (E.written side.new) USAGE.now }
-    ensures side { IsSome (command_of (map string_bytes words.items)) → side.new ≡ side.old }
 
-    // The whole commentary was written.
-    ensures success { result ≡ 0 → (reports : List Report)
-        × Finished (S.left src.old) done reports (O.written out.old) (O.written out.new)
-        × (unsuccessful (totals_of reports) ≡ 0) }
-    ensures refused { result ≡ 1 → (reports : List Report)
-        × Finished (S.left src.old) done reports (O.written out.old) (O.written out.new)
-        × (0 < unsuccessful (totals_of reports)) }
-    ensures fault { result ≡ 3 → (reports : List Report) × (code : ℕ) × (offset : ℕ)
-        × Finished (S.left src.old) («fault» code offset) reports (O.written out.old) (O.written out.new) }
-
-    // The lines of all forms that stand whole in what was read were written.
-    ensures read { result ≡ 4
-        → Halted (S.left src.old) (S.left src.new) Read (O.written out.old) (O.written out.new) }
-    ensures too_long { result ≡ 7
-        → Halted (S.left src.old) (S.left src.new) FileTooLong (O.written out.old) (O.written out.new) }
-
-    // A front part of such lines, or of a whole commentary, was written.
-    ensures stopped { result ≡ 5 → Stopped (S.left src.old) (O.written out.old) (O.written out.new) }
-    ensures memory { result ≡ 6 → Stopped (S.left src.old) (O.written out.old) (O.written out.new) }
-
-    // The ending of the text leaves no other status but those of words, failures and memory.
-    ensures ending { IfSome (S.left src.old) (λ text. (forms : Forms) (ending : Ending)
-        → Reads 500 (2 ^ 25) text forms ending → IsStatusOf ending result) }
+    // What each command leaves behind. Want of memory may end it before it begins.
+    ensures run { (steps : ℕ) → command_of (map string_bytes words.items) ≡ Some (Command.Run steps)
+        → HasRun false (S.left src.old) (S.left src.new) (held_in (O.written out.old) (E.written side.old)) (held_in (O.written out.new) (E.written side.new)) result }
+    ensures log { (steps : ℕ) → command_of (map string_bytes words.items) ≡ Some (Command.Log steps)
+        → HasRun true (S.left src.old) (S.left src.new) (held_in (E.written side.old) (O.written out.old)) (held_in (E.written side.new) (O.written out.new)) result }
+    ensures check { command_of (map string_bytes words.items) ≡ Some Command.Check
+        → HasChecked (S.left src.old) (O.written out.old) (O.written out.new) result }
+    ensures quiet { (steps : ℕ) → command_of (map string_bytes words.items) ≡ Some (Command.Run steps) → side.new ≡ side.old }
+    ensures quiet_check { command_of (map string_bytes words.items) ≡ Some Command.Check → side.new ≡ side.old }
 
     // A status of a failure has its cause.
     ensures source { result ≡ 4 → Rose (S.faults src.old) (S.faults src.new) }
@@ -102,12 +85,52 @@ pub fn nqthm<S: Source, O: Sink, E: Sink>(
     ensures range { result ≤ 7 }
 {
     match read_command(alloc, words.as_slice()) {
-        Ok(Command::Run(_)) => match run_events(alloc, src, out) {
-            Ok(ended) => ended.status(),
-            Err(fault) => fault.status(),
-        },
+        Ok(Command::Run(steps)) => run_status(alloc, src, out, side, false, steps),
+        Ok(Command::Log(steps)) => run_status(alloc, src, side, out, true, steps),
+        Ok(Command::Check) => checked_status(alloc, src, out),
         Err(WordsFault::Refused) => refuse_words(side),
         Err(WordsFault::Memory) => NO_MEMORY,
+    }
+}
+
+/// Runs an event file, and gives the status.
+fn run_status<S: Source, O: Sink, L: Sink>(
+    alloc: Global,
+    src: &mut S,
+    comment: &mut O,
+    log: &mut L,
+    logging: bool,
+    steps: u64,
+) -> u8
+    ensures run { HasRun logging (S.left src.old) (S.left src.new) (held_in (O.written comment.old) (L.written log.old)) (held_in (O.written comment.new) (L.written log.new)) result }
+    ensures alone { logging ≡ false → log.new ≡ log.old }
+    ensures source { result ≡ 4 → Rose (S.faults src.old) (S.faults src.new) }
+    ensures sink { result ≡ 5 → Rose (O.faults comment.old) (O.faults comment.new) ⊎ Rose (L.faults log.old) (L.faults log.new) }
+    ensures range { result ≤ 7 }
+    ensures not_words { result ≡ 2 → ⊥ }
+{
+    match run_events(alloc, src, comment, log, logging, steps) {
+        Ok(ended) => ended.status(),
+        Err(fault) => fault.status(),
+    }
+}
+
+/// Checks a log, and gives the status.
+#[tactic(auto, using(crate::proofs::Endings::has_checked))]
+fn checked_status<S: Source, O: Sink>(alloc: Global, src: &mut S, out: &mut O) -> u8
+    ensures checked { HasChecked (S.left src.old) (O.written out.old) (O.written out.new) result }
+    ensures source { result ≡ 4 → Rose (S.faults src.old) (S.faults src.new) }
+    ensures sink { result ≡ 5 → Rose (O.faults out.old) (O.faults out.new) }
+    ensures range { result ≤ 7 }
+    ensures not_words { result ≡ 2 → ⊥ }
+{
+    match check(alloc, src, out) {
+        Ok(Checked::Accepted(_)) => 0,
+        Ok(Checked::Refused(_, _)) => 1,
+        Err(CheckFault::Read) => 4,
+        Err(CheckFault::Write) => FAILED_WRITE,
+        Err(CheckFault::Memory) => NO_MEMORY,
+        Err(CheckFault::TooLong) => 7,
     }
 }
 

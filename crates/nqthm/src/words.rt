@@ -3,7 +3,7 @@ ghost use Rattle.std.specs.Prelude.{◌≡◌, ◌≤◌, ◌^◌, List, ℕ, So
 ghost use Rattle.std.specs.Option.{option_and_then};
 ghost use Rattle.clap.specs.Words.{app_of, found_of, rows_of, rule_of, subcommand_rows_of, kind_of};
 ghost use Rattle.nqthm.specs.Line.{command_line, steps_rule};
-ghost use Rattle.nqthm.specs.Words.{IsStepLimit, asked_by, command_of, limit_of, steps_at, steps_of};
+ghost use Rattle.nqthm.specs.Words.{IsLimited, IsStepLimit, asked_by, command_of, steps_at, steps_of};
 
 use clap::error::ErrorKind;
 use clap::{Arg, ArgAction, ArgMatches, Error};
@@ -14,6 +14,10 @@ use std::alloc::{AllocError, Global};
 pub enum Command {
     /// Run an event file, each event within so many steps: from 1 to 50,000,000.
     Run(u64),
+    /// The same, and write a log of its proofs.
+    Log(u64),
+    /// Check a log.
+    Check,
 }
 
 /// Why the words name no command.
@@ -34,7 +38,7 @@ const MOST_STEPS: u64 = 50_000_000;
 /// The command that the words ask for, as `clap` reads them. Only want of memory may hide it.
 pub fn read_command(alloc: Global, words: &[String]) -> Result<Command, WordsFault>
     ensures read { IfOk result (λ command. command_of (map string_bytes words.now) ≡ Some command) }
-    ensures range { IfOk result (λ command. IsStepLimit (limit_of command)) }
+    ensures range { IfOk result IsLimited }
     ensures refused { result ≡ Err WordsFault.Refused
         → command_of (map string_bytes words.now) ≡ None }
 {
@@ -50,12 +54,14 @@ pub fn read_command(alloc: Global, words: &[String]) -> Result<Command, WordsFau
 
 // What the words asked for, where `clap` took them.
 fn asked(matches: &ArgMatches<'_>) -> Option<Command>
-    ensures range { IfSome result (λ command. IsStepLimit (limit_of command)) }
+    ensures range { IfSome result IsLimited }
     ensures value { result ≡ option_and_then (λ p. asked_by p.0 p.1) (subcommand_rows_of matches.now) }
 {
     let (name, found) = matches.subcommand()?;
     match name {
         "run" => Some(Command::Run(steps_at(found)?)),
+        "log" => Some(Command::Log(steps_at(found)?)),
+        "check" => Some(Command::Check),
         _ => None,
     }
 }
@@ -96,9 +102,12 @@ fn whole_command<'a>(alloc: Global) -> Result<clap::Command<'a>, AllocError>
     ensures { IfOk result (λ command. app_of command ≡ command_line) }
 {
     let run = clap::Command::new(alloc, "run").arg(limited(alloc))?;
-    clap::Command::new(alloc, "nqthm")
+    let log = clap::Command::new(alloc, "log").arg(limited(alloc))?;
+    let with_run = clap::Command::new(alloc, "nqthm")
         .subcommand_required(true)
-        .subcommand(run)
+        .subcommand(run)?;
+    let with_log = with_run.subcommand(log)?;
+    with_log.subcommand(clap::Command::new(alloc, "check"))
 }
 
 fn limited<'a>(alloc: Global) -> Arg<'a>

@@ -278,3 +278,40 @@ fn other_words_are_refused(rt: HostRuntime) -> Result<(), Fail> {
     }
     Ok(())
 }
+
+#[test]
+fn a_log_has_its_first_and_last_line(rt: HostRuntime) -> Result<(), Fail> {
+    for text in [b"".as_slice(), b"; x"] {
+        let given = Given {
+            words: &["nqthm", "log"],
+            ..Given::run(text)
+        };
+        let answered = answer_to(rt.alloc(), given)?;
+        assert_eq!(rt; answered.status, 0);
+        assert_eq!(rt; answered.out.as_slice(), b"NQTHM-LOG 1\nEND\n".as_slice());
+        assert_eq!(rt; answered.side.as_slice(), NO_FORMS);
+    }
+    Ok(())
+}
+
+#[test]
+fn a_log_is_checked_line_by_line(rt: HostRuntime) -> Result<(), Fail> {
+    for (text, status, want) in [
+        (
+            b"NQTHM-LOG 1\nEND\n".as_slice(),
+            0,
+            b"Accepted, 0 claims.\n".as_slice(),
+        ),
+        (b"", 1, b"Refused, line 1: unexpected end.\n"),
+    ] {
+        let given = Given {
+            words: &["nqthm", "check"],
+            ..Given::run(text)
+        };
+        let answered = answer_to(rt.alloc(), given)?;
+        assert_eq!(rt; answered.status, status);
+        assert_eq!(rt; answered.out.as_slice(), want);
+        assert_eq!(rt; answered.side.as_slice(), b"".as_slice());
+    }
+    Ok(())
+}

@@ -1,66 +1,69 @@
-use Rattle.std.proofs.Common.{◌≡◌, ◌+◌, ◌<◌, ap, refl, arith}
-use Rattle.nq_form.specs.Form.{end, push}
+use Rattle.std.proofs.Common.{rules, ◌≡◌, ◌+◌, ◌<◌, true, ap, refl, sym, arith, ◌∙◌}
+use Rattle.nq_form.specs.Form.{end, next, push}
 use Rattle.nq_sexp.specs.Tree.{tree}
 use Rattle.nq_sexp.specs.Held.{Reading}
 use Rattle.nq_sexp.proofs.Whole.{so_far-start, so_far-next, so_far-end, so_far-fault, found-longer}
 use Rattle.nq_comment.specs.Totals.{Totals, totals_in}
 use Rattle.nq_run.specs.HistoryView.{history_of}
-use Rattle.nq_run.proofs.RunLemmas.{Ran-start, Ran-more, Ran-stopped, begun_of, forms_after, on_err}
+use Rattle.nq_run.proofs.RunLemmas.{Ran-start, Ran-more, Ran-full, Ran-stopped, begun_interrupted, begun_of, forms_after, on_err, ran_as, stopped_as, turned_as}
+use Rattle.nq_run.proofs.LogLemmas.{logs_within_none}
+use Rattle.nq_run.proofs.SpelledLemmas.{items_spelled}
 use Rattle.nq_run.proofs.runs.run_forms.Goals as goal
+
+pub returns-in_err-session-clause-stopped : goal.returns-in_err-session-clause-stopped
+returns-in_err-session-clause-stopped g c = on_err c.from_residual.result _ (begun_interrupted c.args.logging _ _ _ refl (logs_within_none c.args.logging _ _ _ refl))
+
+pub returns-in_err-begin-clause-stopped : goal.returns-in_err-begin-clause-stopped
+returns-in_err-begin-clause-stopped g c = on_err c.from_residual-in_err-begin.result _ (begun_interrupted c.args.logging _ _ _ refl c.in_err-begin.ensures.err)
 
 pub loop-form-init : goal.loop-form-init
 loop-form-init g c =
     let made = c.new-reader.ensures in
-    let none : c.zero-counts.result.forms ≡ 0 = ap (λ (t : Totals). t.forms) c.zero-counts.ensures in (
+    let none : c.zero.result.forms ≡ 0 = ap (λ (t : Totals). t.forms) c.zero.ensures in (
       (
         end,
         so_far-start _ _ _ (ap (λ (r : Reading). r.held.bytes) made) (ap (λ (r : Reading). r.held.at) made) refl,
-        Ran-start _ _ _ c.zero-counts.ensures c.new-history.ensures,
+        Ran-start c.args.logging _ _ _ _ _ c.zero.ensures c.in_ok-session.ensures.none refl c.in_ok-begin.ensures.ok c.in_ok-begin.ensures.count,
       ),
       ap (λ (r : Reading). r.live) made,
       omega (arith, none),
       omega arith,
       omega arith,
+      c.in_ok-begin.ensures.later,
+      c.in_ok-session.ensures.stands,
+      c.in_ok-begin.ensures.same,
+      c.in_ok-begin.ensures.bound,
+      c.in_ok-begin.ensures.alone,
     )
 
-pub loop-form-preserved : goal.loop-form-preserved
-loop-form-preserved g c =
-    let left = g.S.Source.left in
-    let start = left c.args.src.now in
-    let before = c.loop-form.invariant.0 in
-    let form = tree c.in-Ok-Some.form in
-    let found = rw c.in-Ok-Some.field-0-is at c.in-Ok-Some.ensures.form in
-    let turned = c.in_ok-counts-in-Ok-Some.ensures.turned in
-    let longer : c.loop-form.reader.held.at < c.next.new.self.held.at = found-longer left start _ _ _ _ _ found in
-    let one : c.in_ok-counts-in-Ok-Some.counts.forms ≡ c.loop-form.counts.forms + 1 = forms_after turned.report _ _ turned.totals in (
-      (
-        push before.0 form,
-        so_far-next left start _ _ _ _ before.0 form before.1 found,
-        Ran-more before.0 form _ _ _ _ _ _ _ before.2 turned,
-      ),
-      c.in-Ok-Some.ensures.live,
-      omega (arith, one, longer, c.loop-form.invariant.2),
-      omega (arith, c.loop-form.invariant.3, c.in-Ok-Some.ensures.later),
-      omega (arith, c.loop-form.invariant.4, c.in_ok-counts-in-Ok-Some.ensures.later),
-    )
-
-pub loop-form-smaller : goal.loop-form-smaller
-loop-form-smaller g c =
-    let found = rw c.in-Ok-Some.field-0-is at c.in-Ok-Some.ensures.form in
-    let longer : c.loop-form.reader.held.at < c.next.new.self.held.at = found-longer g.S.Source.left (g.S.Source.left c.args.src.now) _ _ _ _ _ found in
-    omega (arith, longer, (found.taken).within)
-
-pub returns-in_err-counts-in-Ok-Some-clause-stopped : goal.returns-in_err-counts-in-Ok-Some-clause-stopped
-returns-in_err-counts-in-Ok-Some-clause-stopped g c =
+pub returns-in_err-turn-in-Ok-Some-clause-full : goal.returns-in_err-turn-in-Ok-Some-clause-full
+returns-in_err-turn-in-Ok-Some-clause-full g c e =
     let left = g.S.Source.left in
     let start = left c.args.src.now in
     let before = c.loop-form.invariant.0 in
     let form = tree c.in-Ok-Some.form in
     let found = rw c.in-Ok-Some.field-0-is at c.in-Ok-Some.ensures.form in
     let more = so_far-next left start _ _ _ _ before.0 form before.1 found in
-    on_err c.from_residual.result _ (Ran-stopped start before.0 form (history_of c.loop-form.history) (totals_in c.loop-form.counts) _ _ _ before.2
+    let full = c.in_err-turn-in-Ok-Some.ensures.full (search rules) in
+    let logging = sym c.loop-form.invariant.7 ∙ full.0 in (
+      logging,
+      Ran-full start before.0 form (history_of c.loop-form.session) (totals_in c.loop-form.progress.counts) c.loop-form.progress.log.count _ _ _
+          (ran_as c.args.logging true _ _ _ _ _ _ logging before.2) (begun_of start c.next.new.self.held (left c.next.new.source) (push before.0 form) more) full.1,
+    )
+
+pub returns-in_err-turn-in-Ok-Some-clause-stopped : goal.returns-in_err-turn-in-Ok-Some-clause-stopped
+returns-in_err-turn-in-Ok-Some-clause-stopped g c =
+    let left = g.S.Source.left in
+    let start = left c.args.src.now in
+    let before = c.loop-form.invariant.0 in
+    let form = tree c.in-Ok-Some.form in
+    let found = rw c.in-Ok-Some.field-0-is at c.in-Ok-Some.ensures.form in
+    let more = so_far-next left start _ _ _ _ before.0 form before.1 found in
+    on_err c.from_residual-in_err-turn-in-Ok-Some.result _ (Ran-stopped c.args.logging start before.0 form (history_of c.loop-form.session) (totals_in c.loop-form.progress.counts)
+    c.loop-form.progress.log.count _ _ _ before.2
     (begun_of start c.loop-form.reader.held (left c.loop-form.src) before.0 before.1)
-    (begun_of start c.next.new.self.held (left c.next.new.source) (push before.0 form) more) c.in_err-counts-in-Ok-Some.ensures.stopped)
+    (begun_of start c.next.new.self.held (left c.next.new.source) (push before.0 form) more)
+    (stopped_as _ c.args.logging _ _ _ _ _ c.loop-form.invariant.7 c.in_err-turn-in-Ok-Some.ensures.stopped))
 
 pub returns-in-Ok-None-clause-walked : goal.returns-in-Ok-None-clause-walked
 returns-in-Ok-None-clause-walked g c =
@@ -68,7 +71,7 @@ returns-in-Ok-None-clause-walked g c =
     let start = left c.args.src.now in
     let before = c.loop-form.invariant.0 in (
       before.0,
-      (history_of c.loop-form.history, before.2),
+      (history_of c.loop-form.session, before.2),
       begun_of start c.loop-form.reader.held (left c.loop-form.src) before.0 before.1,
       so_far-end start c.loop-form.reader.held (left c.loop-form.src) before.0 before.1 (rw c.in-Ok-None.field-0-is at c.in-Ok-None.ensures.none),
     )
@@ -79,7 +82,47 @@ returns-in-Err-clause-walked g c =
     let start = left c.args.src.now in
     let before = c.loop-form.invariant.0 in (
       before.0,
-      (history_of c.loop-form.history, before.2),
+      (history_of c.loop-form.session, before.2),
       begun_of start c.loop-form.reader.held (left c.loop-form.src) before.0 before.1,
       so_far-fault start c.loop-form.reader.held c.next.new.self.held (left c.loop-form.src) _ before.0 c.in-Err.fault before.1 c.in-Err.ensures.fault,
+    )
+
+-- what is read can be spelled
+pub turn-requires-clause-spelled : goal.turn-requires-clause-spelled
+turn-requires-clause-spelled g c =
+    let found = rw c.in-Ok-Some.field-0-is at c.in-Ok-Some.ensures.form in
+    (items_spelled 500 found.text (next (tree c.in-Ok-Some.form) end) found.is.spelled).0
+
+pub loop-form-smaller : goal.loop-form-smaller
+loop-form-smaller g c =
+    let found = rw c.in-Ok-Some.field-0-is at c.in-Ok-Some.ensures.form in
+    let longer : c.loop-form.reader.held.at < c.next.new.self.held.at = found-longer g.S.Source.left (g.S.Source.left c.args.src.now) _ _ _ _ _ found in
+    omega (arith, longer, (found.taken).within)
+
+pub loop-form-preserved : goal.loop-form-preserved
+loop-form-preserved g c =
+    let left = g.S.Source.left in
+    let start = left c.args.src.now in
+    let before = c.loop-form.invariant.0 in
+    let form = tree c.in-Ok-Some.form in
+    let found = rw c.in-Ok-Some.field-0-is at c.in-Ok-Some.ensures.form in
+    let later = c.in_ok-turn-in-Ok-Some.turn in
+    let told = c.in_ok-turn-in-Ok-Some.ensures in
+    let turned = turned_as _ c.args.logging _ _ _ _ _ _ _ _ _ c.loop-form.invariant.7 told.turned in
+    let longer : c.loop-form.reader.held.at < c.next.new.self.held.at = found-longer left start _ _ _ _ _ found in
+    let one : later.progress.counts.forms ≡ c.loop-form.progress.counts.forms + 1 = forms_after turned.report _ _ turned.totals in (
+      (
+        push before.0 form,
+        so_far-next left start _ _ _ _ before.0 form before.1 found,
+        Ran-more c.args.logging before.0 form _ _ _ _ _ _ _ _ _ before.2 turned,
+      ),
+      c.in-Ok-Some.ensures.live,
+      omega (arith, one, longer, c.loop-form.invariant.2),
+      omega (arith, c.loop-form.invariant.3, c.in-Ok-Some.ensures.later),
+      omega (arith, c.loop-form.invariant.4, told.later_comment),
+      omega (arith, c.loop-form.invariant.5, told.later_log),
+      told.stands,
+      told.same ∙ c.loop-form.invariant.7,
+      told.bound,
+      λ off. told.alone (c.loop-form.invariant.7 ∙ off) ∙ c.loop-form.invariant.9 off,
     )

@@ -1,5 +1,0 @@
-use Rattle.std.proofs.Common.{length}
-use Rattle.nq_run.proofs.names.+ends_nest.Given as goal
-
-abbrev pub decreases-ends_nest : goal.decreases-ends_nest
-decreases-ends_nest l = length l.rest.now
