@@ -1,5 +1,5 @@
 -- A block in writing: which lines it has so far, and which terms have numbers.
-use Rattle.std.specs.Prelude.{◌≡◌, ℕ, codes, ◌^◌, ◌<◌, ◌≤◌, ◌+◌, nat_eq, Bool, true, is_some, IsSome, unwrap_or, Option, Some, None, Result, OnOk, List, [], ◌∷◌, ◌++◌, map, length, take}
+use Rattle.std.specs.Prelude.{◌≡◌, ℕ, codes, ◌^◌, ◌<◌, ◌≤◌, ◌+◌, nat_eq, Bool, true, ◌||◌, is_some, IsSome, unwrap_or, Option, Some, None, Result, OnOk, List, [], ◌∷◌, ◌++◌, map, length, take}
 use Rattle.std.specs.declared.hash.FoldHasher.{FoldHasher}
 use Rattle.std.specs.declared.hash.BuildHasherDefault.{BuildHasherDefault}
 use Rattle.std.specs.declared.alloc.AllocError.{AllocError}
@@ -7,6 +7,7 @@ use Rattle.std.specs.HashMap.{get, HashMap}
 use Rattle.nq_logtext.specs.Lines as grammar
 use Rattle.nq_logtext.specs.Lines.{IsSpellable, spelling}
 use Rattle.nq_logtext.specs.declared.line.Binding.{Binding}
+use Rattle.nq_logtext.specs.declared.word.Word.TheVariants as word
 use Rattle.nq_logic.specs.Terms.{Name, Term, Variable, Substitution, Each}
 use Rattle.nq_logic.specs.Histories.{History, Part}
 use Rattle.nq_logic.specs.Ground.{symbols_of}
@@ -22,10 +23,12 @@ use Rattle.nq_history.specs.declared.entry.Entry.{Entry}
 use Rattle.nq_history.specs.Events.{events_at}
 use Rattle.nq_kernel.specs.declared.rule.Line.{Line}
 use Rattle.nq_kernel.specs.Over.{IsTermOf, RuleIsOver, pair_names, IsVariable}
-use Rattle.nq_log.specs.States.{CaseLine, Block, State, start_of, numbered, clause_at}
+use Rattle.nq_log.specs.States.{CaseLine, Block, State, start_of, numbered, clause_at, is_empty}
 use Rattle.nq_log.specs.Sizes.{are_shallow}
 use Rattle.nq_log.specs.RuleLines.{grouped}
 use Rattle.nq_log.specs.Blocks.{lines_text}
+use Rattle.nq_log.specs.Stage.{is_built_word}
+use Rattle.nq_log.specs.Built.{IsBuilt}
 use Rattle.nq_log.specs.Growing.{state_after_lines}
 use Rattle.nq_block.specs.declared.writer.Writer.{Writer}
 use Rattle.nq_block.specs.declared.closing.Closing.{Closing}
@@ -96,12 +99,17 @@ pub record CanDistinguish (h : History) (clauses : List (Option (List Term))) (c
   pub test : IsTermOf IsVariable (symbols_of h) c.test
   pub hypotheses : Each (CanSuppose h clauses) c.hypotheses
 
+-- whether the checker allows the lines of these parts
+abbrev pub are_built_parts : List Part → Bool
+are_built_parts parts = is_empty parts || is_built_word word.Part
+
 -- the text is that of lines that lead from the start of a block to this state
 pub record LeadsTo (text : List ℕ) (s : State) : Type 0 where
   pub lines : List grammar.Line
   pub spellable : Each IsSpellable lines
   pub state : state_after_lines (start_of s.history) lines ≡ Some s
   pub reads : text ≡ lines_text lines
+  pub built : are_built_parts s.block.parts ≡ true → Each IsBuilt lines
 
 -- each number is that of what stands at its place
 pub record AreNumbers (meaning : ℕ → Term) (terms : List Term) (known : Numbers) : Type 0 where

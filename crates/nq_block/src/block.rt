@@ -43,6 +43,7 @@ impl Writer {
             Rule::SplitFirst(line, literal) => self.first_split(*line, *literal),
             Rule::SplitSecond(line, literal) => self.second_split(*line, *literal),
             Rule::NotNot(line, literal) => self.without_nots(*line, *literal),
+            Rule::Value(t) => self.valued(bank, *t),
             Rule::Induct(claim, measure, ordinal, base, cases) => {
                 self.induction(bank, *claim, *measure, *ordinal, *base, cases.as_slice())
             }

@@ -7,7 +7,7 @@
 #![tactic(auto)]
 
 ghost use Rattle.nq_block.specs.Names.{SymbolsBegin, SymbolsGrow, SymbolsStay};
-ghost use Rattle.nq_block.specs.OpenLogs.{LogBegins, BlockFollows, LogEnds};
+ghost use Rattle.nq_block.specs.OpenLogs.{LogBegins, BlockFollows, LogEnds, BuiltLogEnds};
 
 // the closing line
 mod closing;
@@ -33,11 +33,13 @@ mod block;
 pub use block::{write_block, write_end, write_header};
 pub use closing::Closing;
 
-/// A log that is written from its front goes on block by block, and is right with its last line.
+/// A log that is written from its front goes on block by block, and is right with its last line. The checker accepts it
+/// where it allows the closing lines of its blocks.
 pub fn open_log()
     ensures begins { LogBegins }
     ensures follows { BlockFollows }
     ensures ends { LogEnds }
+    ensures built { BuiltLogEnds }
 {}
 
 /// The names of a history are such as a log can spell: at first, after one more such event, and after an undo.

@@ -185,6 +185,18 @@ impl Writer {
     {
         self.put(LogLine::NotNot { line, literal })
     }
+
+    /// VALUE: a term.
+    pub fn valued(&mut self, bank: &Bank, t: TermId) -> Result<(), AllocError>
+        requires counted { IsCounted self.old }
+        requires stands { Stands bank.now t }
+        ensures counted { OnOk result (IsCounted self.new) }
+        ensures rule { WritesRule bank.now self.old result self.new (tree.Value (term_at bank.now t)) }
+    {
+        self.term(bank, t)?;
+        let term = self.number(t);
+        self.put(LogLine::Value { term })
+    }
 }
 
 /// The sign of an order of an equation.

@@ -82,6 +82,7 @@ fn rule_stands(bank: &Bank, rule: &Rule) -> bool
         Rule::SplitFirst(_, _) => true,
         Rule::SplitSecond(_, _) => true,
         Rule::NotNot(_, _) => true,
+        Rule::Value(t) => stands(bank, *t),
         Rule::Induct(_, _, _, _, _) => false,
     }
 }
@@ -205,6 +206,23 @@ fn the_block_written_by_hand_is_written(rt: HostRuntime) -> Result<(), Fail> {
     last_lines(&rt, &mut writer, &bank, &t)?;
     lemma(&rt, &mut writer, &bank, name, t.claim, 8)?;
     assert_eq!(rt; writer.text.as_slice(), BLOCK.as_bytes());
+    Ok(())
+}
+
+#[test]
+fn a_value_is_written_behind_its_term(rt: HostRuntime) -> Result<(), Fail> {
+    let mut bank = Bank::new(rt.alloc())?;
+    let name = bank.name(b"FIVE")?;
+    let two = bank.num(2)?;
+    let three = bank.num(3)?;
+    let five = bank.num(5)?;
+    let sum = call(&rt, &mut bank, ground::PLUS, &[two, three])?;
+    let claim = call(&rt, &mut bank, ground::EQUAL, &[sum, five])?;
+    let mut writer = Writer::new(rt.alloc());
+    rule(&rt, &mut writer, &bank, Rule::Value(sum))?;
+    lemma(&rt, &mut writer, &bank, name, claim, 1)?;
+    let want = "N 2\nN 3\nA PLUS 1 2\nVALUE 3\nN 5\nA EQUAL 3 4\nLEMMA FIVE 5 1\n";
+    assert_eq!(rt; writer.text.as_slice(), want.as_bytes());
     Ok(())
 }
 

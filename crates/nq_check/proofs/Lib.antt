@@ -6,6 +6,7 @@ mod ClosingLemmas
 mod UndoLemmas
 mod DropLemmas
 mod CaseLemmas
+mod ShellLemmas
 mod NumberLemmas
 mod CallLemmas
 mod PassingLemmas

@@ -6,5 +6,6 @@ pub mod Pairs
 pub mod Cases
 pub mod Judging
 pub mod Claims
+pub mod Shells
 pub mod Passing
 pub mod Checking

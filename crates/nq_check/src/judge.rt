@@ -42,7 +42,7 @@ impl Context {
             LogLine::Join { .. } => self.judge_rule(line),
             LogLine::Split { .. } => self.judge_rule(line),
             LogLine::NotNot { .. } => self.judge_rule(line),
-            LogLine::Value { .. } => Ok(Judged::NotAllowed),
+            LogLine::Value { .. } => self.judge_rule(line),
             LogLine::Linear { .. } => Ok(Judged::NotAllowed),
             LogLine::Induct {
                 goal,
@@ -54,8 +54,26 @@ impl Context {
             LogLine::Case { test, line } => self.case_line(*test, *line),
             LogLine::Hyp { line, bindings } => self.hypothesis_line(*line, bindings.as_slice()),
             LogLine::BootStrap => self.bootstrap_line(),
-            LogLine::Shell { .. } => Ok(Judged::NotAllowed),
-            LogLine::Part { .. } => Ok(Judged::NotAllowed),
+            LogLine::Shell {
+                constructor,
+                base,
+                recognizer,
+            } => self.shell_line(
+                constructor.as_slice(),
+                base.as_slice(),
+                recognizer.as_slice(),
+            ),
+            LogLine::Part {
+                accessor,
+                mode,
+                default,
+                recognizers,
+            } => self.part_line(
+                accessor.as_slice(),
+                *mode,
+                default.as_slice(),
+                recognizers.as_slice(),
+            ),
             LogLine::Dcl { function, arity } => {
                 self.declaration_line(function.as_slice(), *arity)
             }
@@ -119,6 +137,7 @@ impl Context {
                 side,
             } => Ok(self.split_rule(*line, *literal, *side)),
             LogLine::NotNot { line, literal } => Ok(self.not_not_rule(*line, *literal)),
+            LogLine::Value { term } => Ok(self.value_rule(*term)),
             LogLine::Header { .. } => Ok(None),
             LogLine::End => Ok(None),
             LogLine::Function { .. } => Ok(None),
@@ -127,7 +146,6 @@ impl Context {
             LogLine::Call { .. } => Ok(None),
             LogLine::Axiom { .. } => Ok(None),
             LogLine::Event { .. } => Ok(None),
-            LogLine::Value { .. } => Ok(None),
             LogLine::Linear { .. } => Ok(None),
             LogLine::Induct { .. } => Ok(None),
             LogLine::Drop { .. } => Ok(None),

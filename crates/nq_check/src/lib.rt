@@ -21,6 +21,7 @@ mod judge;
 mod numbers;
 mod rule_lines;
 mod rules;
+mod shell_lines;
 mod term_lines;
 mod texts;
 

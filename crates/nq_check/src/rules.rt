@@ -5,7 +5,7 @@ ghost use Rattle.std.specs.List.{flat_map};
 ghost use Rattle.nq_logtext.specs.Fields.{number, path, sign};
 ghost use Rattle.nq_logtext.specs.Views.{of_binding, one_number};
 ghost use Rattle.nq_kernel.specs.Meaning.{rule_at, RuleStands};
-ghost use Rattle.nq_log.specs.RuleLines.{taut_rule, weaken_rule, cut_rule, instance_rule, reflexive_rule, replace_rule, join_rule, split_rule, not_not_rule, side_of as side_of_sign};
+ghost use Rattle.nq_log.specs.RuleLines.{taut_rule, weaken_rule, cut_rule, instance_rule, reflexive_rule, replace_rule, join_rule, split_rule, not_not_rule, value_rule, side_of as side_of_sign};
 ghost use Rattle.nq_rule.specs.Sides.{side_of};
 ghost use Rattle.nq_check.specs.Contexts.{state_of, IsWhole};
 
@@ -135,6 +135,16 @@ impl Context {
         ensures stands { IfSome result (λ rule. RuleStands self.now.bank rule) }
     {
         Some(Rule::NotNot(line, literal))
+    }
+
+    /// `VALUE`
+    pub fn value_rule(&self, term: u64) -> Option<Rule>
+        requires { IsWhole self.now }
+        ensures rule { option_map (rule_at self.now.bank) result ≡ value_rule (state_of self.now).block (number term ∷ []) }
+        ensures stands { IfSome result (λ rule. RuleStands self.now.bank rule) }
+    {
+        let t = self.term(term)?;
+        Some(Rule::Value(t))
     }
 
     /// `SPLIT`

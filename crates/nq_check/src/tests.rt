@@ -1,5 +1,7 @@
 ghost use Rattle.std.specs.Prelude.{◌≤◌};
 
+mod shells;
+
 use super::*;
 use nq_io::{MemSink, MemSource};
 use std::alloc::Global;
@@ -211,6 +213,50 @@ DCL E
 Accepted, 8 claims.
 ";
     expect(&rt, rt.alloc(), log.as_slice(), want.as_slice())
+}
+
+// Each row is the number that a lemma claims for a sum, and the verdict.
+#[test]
+fn a_value_is_the_number_of_the_sum(rt: HostRuntime) -> Result<(), Fail> {
+    for (number, want) in [
+        (
+            b"5".as_slice(),
+            b"LEMMA FIVE: (EQUAL (PLUS 2 3) 5)\nAccepted, 1 claims.\n".as_slice(),
+        ),
+        (b"6", b"Refused, line 8: not allowed.\n"),
+    ] {
+        let mut log = b"NQTHM-LOG 1\nN 2\nN 3\nA PLUS 1 2\nN ".to_vec(rt.alloc())?;
+        log.extend_from_slice(number)?;
+        log.extend_from_slice(b"\nA EQUAL 3 4\nVALUE 3\nLEMMA FIVE 5 1\nEND\n")?;
+        expect(&rt, rt.alloc(), log.as_slice(), want)?;
+    }
+    Ok(())
+}
+
+// Each row is a line of VALUE that is not allowed: of terms that are no calls with a row of the table, and of none.
+#[test]
+fn a_term_without_a_row_has_no_value(rt: HostRuntime) -> Result<(), Fail> {
+    for line in [
+        b"VALUE 1".as_slice(),
+        b"VALUE 2",
+        b"VALUE 3",
+        b"VALUE 4",
+        b"VALUE 5",
+        b"VALUE 6",
+    ] {
+        let mut log = b"NQTHM-LOG 1\nN 3\nA MINUS 1\nA CONS 1 2\nV X\nA PLUS 1 4\n".to_vec(
+            rt.alloc(),
+        )?;
+        log.extend_from_slice(line)?;
+        log.extend_from_slice(b"\n")?;
+        expect(
+            &rt,
+            rt.alloc(),
+            log.as_slice(),
+            b"Refused, line 7: not allowed.\n",
+        )?;
+    }
+    Ok(())
 }
 
 // Each row is the closing line of the first block, which is not allowed.

@@ -1,30 +1,37 @@
 -- A report of the program, and its fault, as the model sees them.
-use Rattle.std.specs.Prelude.{ℕ, List, [], ◌∷◌, Option, None, Some, codes}
+use Rattle.std.specs.Prelude.{ℕ, List, map, Option, None, Some, Vec}
 use Rattle.std.specs.Option.{option_map}
 use Rattle.std.specs.Borrow.{Bor}
-use Rattle.nq_comment.specs.Reports.{Answer, Accepted, Proved, Refused, Taut, Report}
-use Rattle.nq_comment.specs.Text.{shown_word}
+use Rattle.std.specs.declared.alloc.Global.{Global}
+use Rattle.nq_comment.specs.Reports as model
+use Rattle.nq_comment.specs.declared.answer.Quick.{Quick}
+use Rattle.nq_comment.specs.declared.answer.Quick.TheVariants as quick
 use Rattle.nq_comment.specs.declared.answer.FormAnswer.{FormAnswer}
 use Rattle.nq_comment.specs.declared.answer.FormAnswer.TheVariants as form
 use Rattle.nq_comment.specs.declared.report.FormReport.{FormReport}
 use Rattle.nq_comment.specs.declared.report.SyntaxFault.{SyntaxFault}
 use Rattle.nq_form.specs.Grammar.{Ending, done, fault}
 
--- the words of a refusal of a form that isn't built yet: its name, and the form's word
-abbrev pub not_yet_words : List ℕ → List (List ℕ)
-not_yet_words word = codes "NotYet" ∷ word ∷ []
+-- the fragment of the program, as the model sees it
+abbrev pub quick_of : Quick → model.Quick
+quick_of quick.Taut = model.Taut
+quick_of quick.Inst = model.Inst
 
--- the answer to a form of this word
-abbrev pub answer_of : List ℕ → FormAnswer → Answer
-answer_of word form.Accepted = Accepted
-answer_of word form.Proved = Proved Taut
-answer_of word form.NotYet = Refused 9 (not_yet_words word)
+abbrev pub words_of : List (Vec ℕ Global) → List (List ℕ)
+words_of = map (λ word. word.items)
+
+abbrev pub answer_of : FormAnswer → model.Answer
+answer_of form.Accepted = model.Accepted
+answer_of (form.Undone count) = model.Undone count
+answer_of form.Skipped = model.Skipped
+answer_of (form.Proved quick) = model.Proved (quick_of quick)
+answer_of (form.Refused refusal) = model.Refused refusal.code (words_of refusal.words.items)
 
 abbrev pub text_of : Option (Bor (List ℕ)) → Option (List ℕ)
 text_of = option_map (λ text. text.now)
 
-abbrev pub report_of : FormReport → Report
-report_of r = let word = text_of r.word in record { word = word; name = text_of r.name; answer = answer_of (shown_word word) r.answer }
+abbrev pub report_of : FormReport → model.Report
+report_of r = record { word = text_of r.word; name = text_of r.name; answer = answer_of r.answer }
 
 abbrev pub ending_of : Option SyntaxFault → Ending
 ending_of None = done

@@ -2,7 +2,7 @@
 use Rattle.std.specs.Prelude.{◌+◌, ◌==◌, if◌then◌else◌, ℕ, List, [], ◌∷◌, ◌++◌, Option, Some, None, codes}
 use Rattle.std.specs.List.{flat_map}
 use Rattle.std.specs.Fmt.{decimal}
-use Rattle.nq_comment.specs.Reports.{Answer, Accepted, Proved, Refused, Quick, Taut, Report}
+use Rattle.nq_comment.specs.Reports.{Answer, Accepted, Undone, Skipped, Proved, Refused, Quick, Taut, Inst, Report}
 use Rattle.nq_comment.specs.Totals.{Totals, totals_of}
 use Rattle.nq_form.specs.Grammar.{Ending, done, fault, too_long}
 
@@ -20,16 +20,18 @@ shown_name None = []
 
 abbrev pub quick_word : Quick → List ℕ
 quick_word Taut = codes "TAUT"
+quick_word Inst = codes "INST"
 
--- the words of a refusal, each after one space, and the end of its line
-abbrev pub refusal_words : List (List ℕ) → List (List ℕ)
-refusal_words [] = codes ".\n" ∷ []
-refusal_words (word ∷ words) = codes " " ∷ word ∷ refusal_words words
+-- a space before each word
+abbrev pub spaced : List (List ℕ) → List ℕ
+spaced words = flat_map (λ word. 32 ∷ word) words
 
 abbrev pub answer_lines : Answer → List ℕ
 answer_lines Accepted = codes "   Accepted.\n"
+answer_lines (Undone count) = joined (codes "   Undone " ∷ decimal count ∷ codes ".\n" ∷ [])
+answer_lines Skipped = codes "   Skipped.\n"
 answer_lines (Proved quick) = joined (codes "   By " ∷ quick_word quick ∷ codes ".\n   Proved.\n" ∷ [])
-answer_lines (Refused code words) = joined (codes "   Refused " ∷ decimal code ∷ refusal_words words)
+answer_lines (Refused code words) = joined (codes "   Refused " ∷ decimal code ∷ spaced words ∷ codes ".\n" ∷ [])
 
 -- the header and the lines of one report
 abbrev pub lines_of_report : ℕ → Report → List ℕ

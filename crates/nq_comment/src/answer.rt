@@ -1,27 +1,51 @@
-ghost use Rattle.std.specs.Prelude.{◌≡◌, List, ℕ};
+ghost use Rattle.std.specs.Prelude.{◌≡◌};
 ghost use Rattle.nq_comment.specs.ReportViews.{answer_of};
 ghost use Rattle.nq_comment.specs.Reports.{kind_of};
 
 use crate::kind::Kind;
 
-/// What a form is answered.
+/// The fragment in which a lemma was proved without a search.
 #[derive(Clone, Copy, Debug, PartialEq, Eq)]
+pub enum Quick {
+    /// A small tautology.
+    Taut,
+    /// An instance of an earlier axiom or lemma.
+    Inst,
+}
+
+/// Why a form was refused.
+#[derive(Drop)]
+pub struct Refusal {
+    /// The number of the refusal.
+    pub code: u64,
+    /// Its words, of which the first is its name.
+    pub words: Vec<Vec<u8>>,
+}
+
+/// What a form is answered.
+#[derive(Drop)]
 pub enum FormAnswer {
     Accepted,
-    /// Proved, as a small tautology.
-    Proved,
-    /// Refused with code 9, since the form is of no kind that is built yet.
-    NotYet,
+    /// So many events are gone.
+    Undone(u64),
+    /// The form was passed over.
+    Skipped,
+    /// The lemma was proved without a search.
+    Proved(Quick),
+    Refused(Refusal),
 }
 
 impl FormAnswer {
     /// As what the summary counts a form of this answer.
-    pub fn kind(self) -> Kind
-        ensures { (word : List ℕ) → result ≡ kind_of (answer_of word self) }
+    pub fn kind(&self) -> Kind
+        ensures { result ≡ kind_of (answer_of self.now) }
     {
         match self {
-            FormAnswer::Accepted | FormAnswer::Proved => Kind::Accepted,
-            FormAnswer::NotYet => Kind::Refused,
+            FormAnswer::Accepted => Kind::Accepted,
+            FormAnswer::Undone(_) => Kind::Accepted,
+            FormAnswer::Proved(_) => Kind::Accepted,
+            FormAnswer::Refused(_) => Kind::Refused,
+            FormAnswer::Skipped => Kind::Skipped,
         }
     }
 }

@@ -11,7 +11,7 @@ mod kind;
 mod report;
 mod text;
 
-pub use answer::FormAnswer;
+pub use answer::{FormAnswer, Quick, Refusal};
 pub use counts::Counts;
 pub use kind::Kind;
-pub use report::{FormReport, SyntaxFault, render_closing, render_report};
+pub use report::{FormReport, SyntaxFault, render_closing, render_report, shown_word};

@@ -1,18 +1,16 @@
 // The texts of reports and of the closing lines.
 ghost use Rattle.std.specs.Prelude.{◌≡◌, IfOk, Some};
-ghost use Rattle.nq_comment.specs.ReportViews.{answer_of, ending_of, report_of, text_of};
-ghost use Rattle.nq_comment.specs.Text.{answer_lines, closing_lines, fault_line, fault_words, lines_of_report, shown_name, shown_word, summary, summary_by};
+ghost use Rattle.nq_comment.specs.Reports as model;
+ghost use Rattle.nq_comment.specs.ReportViews.{answer_of, ending_of, quick_of, report_of, text_of, words_of};
+ghost use Rattle.nq_comment.specs.Text.{answer_lines, closing_lines, fault_line, fault_words, lines_of_report, quick_word, shown_name, shown_word, spaced, summary, summary_by};
 ghost use Rattle.nq_comment.specs.Totals.{totals_in};
 
 use crate::text::joined;
-use crate::{Counts, FormAnswer};
+use crate::{Counts, FormAnswer, Quick, Refusal};
 use std::alloc::{AllocError, Global};
 
-/// The code of the refusal of a form that is of no kind that is built yet.
-const NOT_YET: u64 = 9;
-
 /// One form's report: the word and the name of its header, and the answer.
-#[derive(Clone, Copy)]
+#[derive(Drop)]
 pub struct FormReport<'a> {
     /// None where the form is no list that begins with a symbol.
     pub word: Option<&'a [u8]>,
@@ -39,7 +37,7 @@ pub fn render_report(
 {
     let word = shown_word(report.word);
     let name = shown_name(alloc, report.name)?;
-    let answer = answer_lines(alloc, report.answer, word)?;
+    let answer = answer_lines(alloc, &report.answer)?;
     let digits = number.to_string(alloc)?;
     let pieces = [
         digits.as_bytes(),
@@ -52,7 +50,8 @@ pub fn render_report(
     joined(alloc, pieces.as_slice())
 }
 
-fn shown_word(word: Option<&[u8]>) -> &[u8]
+/// The word as a header shows it, and refusals that name it: `?` where there is none.
+pub fn shown_word(word: Option<&[u8]>) -> &[u8]
     ensures { result.now ≡ shown_word (text_of word.entry) }
 {
     match word {
@@ -70,27 +69,72 @@ fn shown_name(alloc: Global, name: Option<&[u8]>) -> Result<Vec<u8>, AllocError>
     }
 }
 
-fn answer_lines(alloc: Global, answer: FormAnswer, word: &[u8]) -> Result<Vec<u8>, AllocError>
-    ensures { IfOk result (λ text. text.items ≡ answer_lines (answer_of word.now answer)) }
+fn answer_lines(alloc: Global, answer: &FormAnswer) -> Result<Vec<u8>, AllocError>
+    ensures { IfOk result (λ text. text.items ≡ answer_lines (answer_of answer.now)) }
 {
     match answer {
         FormAnswer::Accepted => b"   Accepted.\n".as_slice().to_vec(alloc),
-        FormAnswer::Proved => b"   By TAUT.\n   Proved.\n".as_slice().to_vec(alloc),
-        FormAnswer::NotYet => not_yet_line(alloc, word),
+        FormAnswer::Undone(count) => undone_line(alloc, *count),
+        FormAnswer::Skipped => b"   Skipped.\n".as_slice().to_vec(alloc),
+        FormAnswer::Proved(quick) => quick_lines(alloc, *quick),
+        FormAnswer::Refused(refusal) => refused_line(alloc, refusal),
     }
 }
 
-fn not_yet_line(alloc: Global, word: &[u8]) -> Result<Vec<u8>, AllocError>
-    ensures { IfOk result (λ text. text.items ≡ answer_lines (answer_of word.now FormAnswer.NotYet)) }
+fn undone_line(alloc: Global, count: u64) -> Result<Vec<u8>, AllocError>
+    ensures { IfOk result (λ text. text.items ≡ answer_lines (model.Undone count)) }
 {
-    let code = NOT_YET.to_string(alloc)?;
+    let digits = count.to_string(alloc)?;
+    let pieces = [
+        b"   Undone ".as_slice(),
+        digits.as_bytes(),
+        b".\n".as_slice(),
+    ];
+    joined(alloc, pieces.as_slice())
+}
+
+fn quick_word(quick: Quick) -> &'static [u8]
+    ensures { result.now ≡ quick_word (quick_of quick) }
+{
+    match quick {
+        Quick::Taut => b"TAUT".as_slice(),
+        Quick::Inst => b"INST".as_slice(),
+    }
+}
+
+fn quick_lines(alloc: Global, quick: Quick) -> Result<Vec<u8>, AllocError>
+    ensures { IfOk result (λ text. text.items ≡ answer_lines (model.Proved (quick_of quick))) }
+{
+    let pieces = [
+        b"   By ".as_slice(),
+        quick_word(quick),
+        b".\n   Proved.\n".as_slice(),
+    ];
+    joined(alloc, pieces.as_slice())
+}
+
+// Each word after one space.
+fn spaced(alloc: Global, words: &[Vec<u8>]) -> Result<Vec<u8>, AllocError>
+    ensures { IfOk result (λ text. text.items ≡ spaced (words_of words.now)) }
+{
+    let mut text = Vec::new(alloc);
+    for word in words {
+        text.extend_from_slice(b" ")?;
+        text.extend_from_slice(word.as_slice())?;
+    }
+    Ok(text)
+}
+
+fn refused_line(alloc: Global, refusal: &Refusal) -> Result<Vec<u8>, AllocError>
+    ensures { IfOk result (λ text. text.items
+        ≡ answer_lines (model.Refused refusal.now.code (words_of refusal.now.words.items))) }
+{
+    let code = refusal.code.to_string(alloc)?;
+    let words = spaced(alloc, refusal.words.as_slice())?;
     let pieces = [
         b"   Refused ".as_slice(),
         code.as_bytes(),
-        b" ".as_slice(),
-        b"NotYet".as_slice(),
-        b" ".as_slice(),
-        word,
+        words.as_slice(),
         b".\n".as_slice(),
     ];
     joined(alloc, pieces.as_slice())

@@ -12,6 +12,7 @@ ghost use Rattle.nq_history.specs.Marking.{AreMarked, IsMarked};
 ghost use Rattle.nq_history.specs.Lookups.{enabled_in, entries_before, entry_named, push_fault, undo_answer, undo_fault, IsAnswer};
 ghost use Rattle.nq_logic.specs.Ground.{ground_history, symbols_of};
 ghost use Rattle.nq_language.specs.Arities.{arity_in};
+ghost use Rattle.nq_history.specs.Functions.{arity_among, functions_of};
 ghost use Rattle.nq_bank.specs.Shells.{texts_at};
 
 use crate::entry::{Entry, EntryKind};
@@ -150,7 +151,10 @@ impl History {
 
     /// How many arguments the history's function of this name has; none where it has no such function. It takes no memory.
     pub fn arity(&self, name: Sym) -> Option<u64>
-        ensures { (bank : Content) → IsSound bank → HistoryStands bank self.now → IsNamed bank name → result ≡ arity_in (symbols_of (events_at bank self.now)) (text_at bank name) }
+        ensures value { result ≡ arity_among name (functions_of self.now) }
+
+        // Over each bank it is as the logic says of the name's text.
+        ensures events { (bank : Content) → IsSound bank → HistoryStands bank self.now → IsNamed bank name → result ≡ arity_in (symbols_of (events_at bank self.now)) (text_at bank name) }
     {
         self.index.arity(name)
     }

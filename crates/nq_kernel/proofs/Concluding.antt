@@ -12,9 +12,11 @@ use Rattle.nq_proof.specs.Linear.{and_then}
 use Rattle.nq_proof.specs.Rules as tree
 use Rattle.nq_proof.specs.Rules.{conclusion, given, when, event_term, is_substitution}
 use Rattle.nq_proof.specs.Rows.{axiom_clause}
+use Rattle.nq_proof.specs.Values.{value_of}
 use Rattle.nq_rule.specs.Results.{join_of, placed_of, replacement_of, first_split_of, second_split_of, not_not_of}
 use Rattle.nq_rule.specs.Places.{part_at}
 use Rattle.nq_rule.proofs.ReplacingLemmas.{replacement_test}
+use Rattle.nq_value_rule.specs.Equations.{value_equation}
 use Rattle.nq_kernel.specs.declared.rule.Rule.{Rule}
 use Rattle.nq_kernel.specs.declared.rule.Line.{Line}
 use Rattle.nq_history.specs.declared.entry.Entry.{Entry}
@@ -142,6 +144,12 @@ module _ (bank : Content) (history : List Entry) (log : List Line) (rule : Rule)
 
   pub reflexive_test : (t : Term) → rule_at bank rule ≡ tree.Reflexive t → true ≡ is_some (conclusion_at bank history log rule)
   reflexive_test t e = sym (ap is_some (as_tree (tree.Reflexive t) e))
+
+  pub value_is : (t : Term) → rule_at bank rule ≡ tree.Value t → conclusion_at bank history log rule ≡ value_equation t
+  value_is t e = as_tree (tree.Value t) e
+
+  pub value_test : (t : Term) → rule_at bank rule ≡ tree.Value t → is_some (value_of t) ≡ is_some (conclusion_at bank history log rule)
+  value_test t e = is_some-some (value_of t) (λ v. equal_term t v ∷ []) ∙ sym (ap is_some (as_tree (tree.Value t) e))
 
   -- what a rule that cites one line gives
   pub one_test : {X : Type 0} (l : ℕ) (r : tree.Rule) (next : Clause → Option Clause) (test : Clause → Option X) → rule_at bank rule ≡ r → conclusion (events_at bank history) (clause_at bank log) r ≡ given (clause_at bank log l) next →

@@ -16,7 +16,7 @@ shells_join [] ys = refl
 shells_join (x ∷ xs) ys = ap (λ ds. event_shells x ++ ds) (shells_join xs ys) ∙ sym (append_assoc (event_shells x) (events_shells xs) (events_shells ys))
 
 -- all events are those of the ground history and those past it
-ground_first : (bank : Content) (history : List Entry) → HistoryStands bank history → all_events_at bank history ≡ ground_history ++ events_at bank history
+pub ground_first : (bank : Content) (history : List Entry) → HistoryStands bank history → all_events_at bank history ≡ ground_history ++ events_at bank history
 ground_first bank history stands =
     sym (take-append-drop ground_length (all_events_at bank history)) ∙
     ap (λ xs. xs ++ drop ground_length (all_events_at bank history)) stands.ground ∙

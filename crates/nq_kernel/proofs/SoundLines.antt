@@ -1,5 +1,5 @@
 -- Lines are derivable.
-use Rattle.std.proofs.Common.{◌≡◌, ℕ, zero, suc, ◌<◌, ◌≤◌, Option, Some, None, List, [], ◌∷◌, length, take, refl, sym, ap, ◌∙◌, subst, true, arith}
+use Rattle.std.proofs.Common.{◌≡◌, ℕ, zero, suc, ◌≤◌, Option, Some, None, List, [], ◌∷◌, take, refl, sym, ap, ◌∙◌, subst, arith}
 use Rattle.std.specs.Prelude.{slice_get}
 use Rattle.std.specs.Option.{option_map}
 use Rattle.std.proofs.lemmas.List.{length-take}
@@ -11,39 +11,21 @@ use Rattle.nq_logic.specs.Derivations.{Derivable}
 use Rattle.nq_bank.specs.Content.{Content, terms_at}
 use Rattle.nq_proof.specs.Closed.{IsClosed}
 use Rattle.nq_proof.specs.Laws.{LemmasHold, LinesHold}
-use Rattle.nq_proof.specs.Rules.{is_basic, rule_terms}
-use Rattle.nq_proof.proofs.SoundRules.{soundness_law}
+use Rattle.nq_proof.specs.Rules.{rule_terms}
+use Rattle.nq_arith.specs.Laws.{FullSoundness}
 use Rattle.nq_history.specs.declared.entry.Entry.{Entry}
 use Rattle.nq_history.specs.Events.{events_at}
-use Rattle.nq_kernel.specs.declared.rule.Rule.{Rule}
-use Rattle.nq_kernel.specs.declared.rule.Rule.TheVariants.{Taut, AxiomRow, EventTerm, Weaken, Cut, Instance, Reflexive, Replace, Join, SplitFirst, SplitSecond, NotNot, Induct}
 use Rattle.nq_kernel.specs.declared.rule.Line.{Line}
-use Rattle.nq_kernel.specs.Lines.{ids_at, ids_of, ids_if}
+use Rattle.nq_kernel.specs.Lines.{ids_of, ids_if}
 use Rattle.nq_kernel.specs.Meaning.{rule_at, clause_at, conclusion_at}
 use Rattle.nq_kernel.specs.Over.{IsVariable, IsTermOf, RulesAreOver}
 use Rattle.nq_kernel.specs.Growing.{IsLegal, LogGrows}
 use Rattle.nq_kernel.specs.Laws.{SoundLine, SoundLog}
 use Rattle.nq_kernel.proofs.LogGrowth.{slice_get-take}
 
-rule_basic : (bank : Content) (rule : Rule) → is_basic (rule_at bank rule) ≡ true
-rule_basic bank (Taut terms) = refl
-rule_basic bank (AxiomRow name row part) = refl
-rule_basic bank (EventTerm name) = refl
-rule_basic bank (Weaken line terms) = refl
-rule_basic bank (Cut first second t) = refl
-rule_basic bank (Instance line pairs) = refl
-rule_basic bank (Reflexive t) = refl
-rule_basic bank (Replace line place path t side) = refl
-rule_basic bank (Join first second parts) = refl
-rule_basic bank (SplitFirst line place) = refl
-rule_basic bank (SplitSecond line place) = refl
-rule_basic bank (NotNot line place) = refl
-rule_basic bank (Induct claim measure ordinal base cases) = refl
-
-pub line_law : SoundLine
+pub line_law : FullSoundness → SoundLine
 unfolding conclusion_at
-line_law bank history log rule c closed lemmas lines terms made =
-    soundness_law (events_at bank history) (clause_at bank log) (rule_at bank rule) c (rule_basic bank rule) closed lemmas lines terms made
+line_law rules_hold bank history log rule c closed lemmas lines terms made = rules_hold (events_at bank history) (clause_at bank log) (rule_at bank rule) c closed lemmas lines terms made
 
 each_over : (P : Name → Type 0) (symbols : List Symbol) (ts : List Term) → Each (IsTermOf P symbols) ts → Each (IsTerm symbols) ts
 each_over P symbols [] h = tt
@@ -61,12 +43,12 @@ line_taken bank log k (suc m) c e = by_line (slice_get (take k log) m) refl e
         let count = length-take k log in
         (omega (arith, within, count), ap (λ o. option_map (terms_at bank) (ids_of o)) (slice_get-take log k m line at) ∙ h)
 
-module _ (bank : Content) (history : List Entry) (log : List Line) (P : Name → Type 0) (closed : IsClosed (events_at bank history)) (lemmas : LemmasHold (events_at bank history)) (grows : LogGrows bank history [] log) (over : RulesAreOver P bank history 0 log) where
+module _ (rules_hold : FullSoundness) (bank : Content) (history : List Entry) (log : List Line) (P : Name → Type 0) (closed : IsClosed (events_at bank history)) (lemmas : LemmasHold (events_at bank history)) (grows : LogGrows bank history [] log) (over : RulesAreOver P bank history 0 log) where
   legal_line : (k : ℕ) (c : List Term) (legal : IsLegal bank history log k) → LinesHold (events_at bank history) (clause_at bank (take k log)) → clause_at bank log (suc k) ≡ Some c → Derivable (events_at bank history) (clause c)
   legal_line k c legal lines e =
       let ids : List Term = terms_at bank legal.line.clause.items in
       let terms = each_over P (symbols_of (events_at bank history)) (rule_terms (rule_at bank legal.line.rule)) (over.each k legal.line (omega arith) legal.at).terms in
-      let shown : Derivable (events_at bank history) (clause ids) = line_law bank history (take k log) legal.line.rule ids closed lemmas lines terms legal.clause.concluded in
+      let shown : Derivable (events_at bank history) (clause ids) = line_law rules_hold bank history (take k log) legal.line.rule ids closed lemmas lines terms legal.clause.concluded in
       let found : clause_at bank log (suc k) ≡ Some ids = ap (λ o. option_map (terms_at bank) (ids_of o)) legal.at ∙ ap (λ b. option_map (terms_at bank) (ids_if b legal.line.clause.items)) legal.stands in
       subst (λ d. Derivable (events_at bank history) (clause d)) (by_some ids c (sym found ∙ e)) shown
     where
@@ -88,5 +70,5 @@ module _ (bank : Content) (history : List Entry) (log : List Line) (P : Name →
       (λ n d h. let there = line_taken bank log k n d h in first_lines m n d (omega (arith, within, there.0)) there.1)
       e
 
-pub log_law : SoundLog
-log_law bank history log closed lemmas grows over = λ n c e. first_lines bank history log IsVariable closed lemmas grows over n n c (omega arith) e
+pub log_law : FullSoundness → SoundLog
+log_law rules_hold bank history log closed lemmas grows over = λ n c e. first_lines rules_hold bank history log IsVariable closed lemmas grows over n n c (omega arith) e

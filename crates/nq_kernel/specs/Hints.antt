@@ -1,6 +1,5 @@
 -- What hints mean over a bank.
-use Rattle.std.specs.Prelude.{All, IfSome, List, map}
-use Rattle.nq_logic.specs.Terms.{Name, Each}
+use Rattle.std.specs.Prelude.{All, IfSome, List}
 use Rattle.nq_bank.specs.Content.{Content, Stands, IsNamed, text_at}
 use Rattle.nq_clause.specs.declared.substitution.Pair.{Pair}
 use Rattle.nq_clause.specs.Substitution.{PairStands}

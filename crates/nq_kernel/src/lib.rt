@@ -35,21 +35,27 @@ mod verdict;
 pub use counter::Counter;
 pub use hints::{Hints, Instance};
 pub use log::Log;
+use nq_arith::full_soundness;
 pub use prescription::Prescription;
 pub use prover::Prover;
 pub use rule::{Line, Rule};
+pub use shells::shells_among;
 pub use verdict::{Cause, MoveKind, Path, PathStep, Proof, Quick, Verdict};
 pub use work::{Stop, Work};
 
 /// The line of an allowed rule is derivable where the lines before it are.
 pub fn sound_line()
     ensures { SoundLine }
-{}
+{
+    full_soundness();
+}
 
 /// Each standing line is derivable of a log that grew from the empty log by rules over the history's functions.
 pub fn sound_log()
     ensures { SoundLog }
-{}
+{
+    full_soundness();
+}
 
 #[cfg(test)]
 mod tests;

@@ -29,6 +29,8 @@ use nq_rule::{
     instance_clause, join_clause, reflexive_clause, replace_clause, second_branch_clause,
     under_nots_at, weaker_clause,
 };
+use nq_value::has_value;
+use nq_value_rule::value_clause;
 use std::alloc::{AllocError, Global};
 use std::marker::Model;
 
@@ -154,6 +156,7 @@ impl Log {
             Rule::SplitFirst(line, place) => self.branches_of(bank, *line, *place).is_some(),
             Rule::SplitSecond(line, place) => self.branches_of(bank, *line, *place).is_some(),
             Rule::NotNot(line, place) => self.under_literal(bank, *line, *place).is_some(),
+            Rule::Value(t) => has_value(bank, *t),
             Rule::Induct(claim, measure, ordinal, base, cases) => {
                 self.is_induction(bank, *claim, *measure, *ordinal, *base, cases.as_slice())?
             }
@@ -323,6 +326,7 @@ impl Log {
             Rule::SplitFirst(line, place) => self.split_first(bank, *line, *place),
             Rule::SplitSecond(line, place) => self.split_second(bank, *line, *place),
             Rule::NotNot(line, place) => self.without_nots(bank, *line, *place),
+            Rule::Value(t) => value_clause(bank, *t),
             Rule::Induct(claim, _, _, _, _) => clause_of_one(bank, *claim),
         }
     }

@@ -60,6 +60,7 @@ pub fn steps_of_line(rule: &Rule) -> u128
         Rule::SplitFirst(_, _) => 4,
         Rule::SplitSecond(_, _) => 4,
         Rule::NotNot(_, _) => 3,
+        Rule::Value(_) => 2,
         Rule::Induct(_, _, _, _, cases) => steps_of_case_lines(cases.as_slice()).saturating_add(5),
     }
 }

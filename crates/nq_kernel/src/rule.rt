@@ -32,6 +32,8 @@ pub enum Rule {
     SplitSecond(u64, u64),
     /// NOTNOT: what stands under two NOTs in the place of a literal.
     NotNot(u64, u64),
+    /// VALUE: `(EQUAL t v)`, where t is a call on values, and v its value by the table of values.
+    Value(TermId),
     /// INDUCT: the claim, by its measure, with the line that says that the measure is an ordinal, the line of the base case,
     /// and the cases.
     Induct(TermId, TermId, u64, u64, Vec<CaseOfInduction>),

@@ -90,6 +90,7 @@ fn rule_stands(bank: &Bank, rule: &Rule) -> bool
         Rule::SplitFirst(_, _) => true,
         Rule::SplitSecond(_, _) => true,
         Rule::NotNot(_, _) => true,
+        Rule::Value(t) => stands(bank, *t),
         Rule::Induct(claim, measure, _, _, cases) => {
             stands(bank, *claim) && stands(bank, *measure) && cases_stand(bank, cases.as_slice())
         }
@@ -149,6 +150,51 @@ fn terms_without_an_opposite_are_no_tautology(rt: HostRuntime) -> Result<(), Fai
     let rule = Rule::Taut(vec![in rt.alloc(); left, truth]?);
     assert!(rt; !allowed(&rt, &work, &history, &rule)?);
     Ok(())
+}
+
+#[test]
+fn a_call_on_values_equals_its_value(rt: HostRuntime) -> Result<(), Fail> {
+    let mut bank = Bank::new(rt.alloc())?;
+    let two = bank.num(2)?;
+    let three = bank.num(3)?;
+    let five = bank.num(5)?;
+    let history = History::ground(&mut bank)?;
+    let mut work = Work::new(bank, Log::new(rt.alloc()), 1000);
+    let sum = call(&rt, &mut work, &history, ground::PLUS, &[two, three])?;
+    let want = call(&rt, &mut work, &history, ground::EQUAL, &[sum, five])?;
+    line(&rt, &mut work, &history, Rule::Value(sum), &[want])
+}
+
+/// None of these terms has a line by VALUE.
+fn have_no_value(
+    rt: &impl Abort,
+    work: &Work,
+    history: &History,
+    terms: &[TermId],
+) -> Result<(), Fail>
+    requires stands { WorkStands history.now work.now }
+{
+    for t in terms {
+        assert!(rt; !allowed(rt, work, history, &Rule::Value(*t))?, "{t:?}");
+    }
+    Ok(())
+}
+
+#[test]
+fn a_call_without_a_row_has_no_value(rt: HostRuntime) -> Result<(), Fail> {
+    let mut bank = Bank::new(rt.alloc())?;
+    let x = bank.name(b"X")?;
+    let variable = bank.var(x)?;
+    let two = bank.num(2)?;
+    let greatest = bank.num(u128::MAX)?;
+    let history = History::ground(&mut bank)?;
+    let mut work = Work::new(bank, Log::new(rt.alloc()), 1000);
+    let open = call(&rt, &mut work, &history, ground::PLUS, &[variable, two])?;
+    let passing = call(&rt, &mut work, &history, ground::PLUS, &[greatest, two])?;
+    let pair = call(&rt, &mut work, &history, ground::CONS, &[two, two])?;
+    let other = call(&rt, &mut work, &history, ground::APPEND, &[two, two])?;
+    let terms = [variable, two, open, passing, pair, other];
+    have_no_value(&rt, &work, &history, &terms)
 }
 
 #[test]

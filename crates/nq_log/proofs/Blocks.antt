@@ -4,6 +4,7 @@ use Rattle.std.specs.Prelude.{Option, Some, None}
 use Rattle.nq_logtext.specs.Lines.{Line, IsSpellable, spelling}
 use Rattle.nq_logtext.specs.Reading.{line_of}
 use Rattle.nq_logtext.proofs.LineLaws.{line_again, line_takes}
+use Rattle.nq_logic.specs.Terms.{Each}
 use Rattle.nq_log.specs.States.{Block, State, Claim, after_claim, start_of, Step, Continues, Claims, Ends}
 use Rattle.nq_log.specs.Logs.{step, Malformed, NotAllowed, wrong, with_claim, Reading, is_header, read_lines, read_end}
 use Rattle.nq_log.specs.Blocks.{claim_at_end, block_claim, OneBlock}
@@ -48,34 +49,45 @@ by_header next lines rest b = elim b as (λ b. Reading) [ true ↦ read_lines ne
 abbrev pub by_first : (State → Line → Option Step) → List (List ℕ) → List ℕ → Option Line → Reading
 by_first next lines rest o = elim o as (λ o. Reading) [ None ↦ wrong 1 Malformed | Some line ↦ by_header next lines rest (is_header line.word) ]
 
-pub one_block_law : OneBlock
-one_block_law n s [] lines rest c w e = absurd (nothing_found c e)
-one_block_law n s (line ∷ block) lines rest c w e = by_step (λ b. one_block_law (suc n) (record s { block = b }) block lines rest c w.1) (step s line) refl e
-  where
-    after : Reading
-    after = with_claim c (read_lines step (n + length (line ∷ block)) (start_of (after_claim s.history c)) lines rest)
+-- the line leads where it leads in a log
+abbrev pub Agrees : (State → Line → Option Step) → Line → Type 0
+Agrees next line = (s : State) → next s line ≡ step s line
 
+-- a block is read as its claim by each reading that agrees about its lines
+pub block_read : (next : State → Line → Option Step) (n : ℕ) (s : State) (block : List Line) (lines : List (List ℕ)) (rest : List ℕ) (c : Claim) →
+    Each IsSpellable block → Each (Agrees next) block → block_claim s block ≡ Some c →
+    read_lines next n s (map spelling block ++ lines) rest ≡ with_claim c (read_lines next (n + length block) (start_of (after_claim s.history c)) lines rest)
+block_read next n s [] lines rest c w a e = absurd (nothing_found c e)
+block_read next n s (line ∷ block) lines rest c w a e = by_step (λ b. block_read next (suc n) (record s { block = b }) block lines rest c w.1 a.1) (step s line) refl e
+  where
     longer : (m k : ℕ) → suc m + k ≡ m + suc k
     longer m k = omega arith
 
     at_end : (block : List Line) (d : Claim) → claim_at_end block d ≡ Some c →
-        with_claim d (read_lines step (suc n) (start_of (after_claim s.history d)) (map spelling block ++ lines) rest) ≡ with_claim c (read_lines step (n + length (line ∷ block)) (start_of (after_claim s.history c)) lines rest)
+        with_claim d (read_lines next (suc n) (start_of (after_claim s.history d)) (map spelling block ++ lines) rest) ≡ with_claim c (read_lines next (n + length (line ∷ block)) (start_of (after_claim s.history c)) lines rest)
     at_end [] d e =
-        ap (λ (m : ℕ). with_claim d (read_lines step m (start_of (after_claim s.history d)) lines rest)) (one_more n)
-        ∙ ap (λ (d : Claim). with_claim d (read_lines step (n + 1) (start_of (after_claim s.history d)) lines rest)) (found_same d c e)
-    at_end (next ∷ block) d e = absurd (nothing_found c e)
+        ap (λ (m : ℕ). with_claim d (read_lines next m (start_of (after_claim s.history d)) lines rest)) (one_more n)
+        ∙ ap (λ (d : Claim). with_claim d (read_lines next (n + 1) (start_of (after_claim s.history d)) lines rest)) (found_same d c e)
+    at_end (second ∷ block) d e = absurd (nothing_found c e)
 
     by_step : ((b : Block) → block_claim (record s { block = b }) block ≡ Some c →
-        read_lines step (suc n) (record s { block = b }) (map spelling block ++ lines) rest ≡ with_claim c (read_lines step (suc n + length block) (start_of (after_claim s.history c)) lines rest)) →
+        read_lines next (suc n) (record s { block = b }) (map spelling block ++ lines) rest ≡ with_claim c (read_lines next (suc n + length block) (start_of (after_claim s.history c)) lines rest)) →
         (o : Option Step) → step s line ≡ o →
         elim o as (λ o. Option Claim) [
           | None ↦ None
           | Some taken ↦ elim taken as (λ t. Option Claim) [ Continues block' ↦ block_claim (record s { block = block' }) block | Claims d ↦ claim_at_end block d | Ends ↦ None ]
         ] ≡ Some c →
-        read_lines step n s (spelling line ∷ (map spelling block ++ lines)) rest ≡ with_claim c (read_lines step (n + length (line ∷ block)) (start_of (after_claim s.history c)) lines rest)
-    by_step next None t f = absurd (nothing_found c f)
-    by_step next (Some (Continues b)) t f =
-        read_so step n s (spelling line) (map spelling block ++ lines) rest line (Some (Continues b)) w.0 refl t
-        ∙ (next b f ∙ ap (λ (m : ℕ). with_claim c (read_lines step m (start_of (after_claim s.history c)) lines rest)) (longer n (length block)))
-    by_step next (Some (Claims d)) t f = read_so step n s (spelling line) (map spelling block ++ lines) rest line (Some (Claims d)) w.0 refl t ∙ at_end block d f
-    by_step next (Some Ends) t f = absurd (nothing_found c f)
+        read_lines next n s (spelling line ∷ (map spelling block ++ lines)) rest ≡ with_claim c (read_lines next (n + length (line ∷ block)) (start_of (after_claim s.history c)) lines rest)
+    by_step on None t f = absurd (nothing_found c f)
+    by_step on (Some (Continues b)) t f =
+        read_so next n s (spelling line) (map spelling block ++ lines) rest line (Some (Continues b)) w.0 refl (a.0 s ∙ t)
+        ∙ (on b f ∙ ap (λ (m : ℕ). with_claim c (read_lines next m (start_of (after_claim s.history c)) lines rest)) (longer n (length block)))
+    by_step on (Some (Claims d)) t f = read_so next n s (spelling line) (map spelling block ++ lines) rest line (Some (Claims d)) w.0 refl (a.0 s ∙ t) ∙ at_end block d f
+    by_step on (Some Ends) t f = absurd (nothing_found c f)
+
+pub all_agree : (block : List Line) → Each (Agrees step) block
+all_agree [] = tt
+all_agree (line ∷ block) = (λ s. refl, all_agree block)
+
+pub one_block_law : OneBlock
+one_block_law n s block lines rest c w e = block_read step n s block lines rest c w (all_agree block) e

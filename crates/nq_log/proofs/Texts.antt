@@ -2,17 +2,19 @@
 use Rattle.std.proofs.Common.{◌≡◌, ℕ, ◌+◌, Bool, true, false, nat_eq, List, [], ◌∷◌, ◌++◌, map, length, refl, ap, ◌∙◌}
 use Rattle.std.specs.Prelude.{Option, Some, None}
 use Rattle.nq_logtext.specs.Lines.{Line, IsSpellable, spelling}
-use Rattle.nq_logtext.specs.Reading.{line_of}
+use Rattle.nq_logtext.specs.Reading.{◌>>=◌, line_of}
 use Rattle.nq_logtext.proofs.Cuts.{IsFree}
 use Rattle.nq_logtext.proofs.LineLaws.{line_again, line_free}
 use Rattle.nq_logic.specs.Terms.{Each}
-use Rattle.nq_logic.proofs.Lists.{each_append}
+use Rattle.nq_logic.proofs.Lists.{each_append, each_mono}
 use Rattle.nq_logic.specs.Histories.{History}
-use Rattle.nq_log.specs.States.{Claim, after_claim, start_of, Ends}
-use Rattle.nq_log.specs.Logs.{step, Right, Malformed, NotAllowed, wrong, is_header, Reading, with_claim, Cut, with_byte, cut_lines, read_lines, read_log}
-use Rattle.nq_log.specs.Blocks.{block_claim, blocks_claim, header_line, end_line, lines_text, lines_of, OneLog}
+use Rattle.nq_log.specs.States.{State, Claim, after_claim, start_of, Step, Ends, only_when}
+use Rattle.nq_log.specs.Logs.{step, Right, Reading, with_claim, Cut, with_byte, cut_lines, read_lines, read_log, reading_by}
+use Rattle.nq_log.specs.Blocks.{block_claim, blocks_claim, header_line, end_line, lines_text, lines_of, log_text, OneLog}
+use Rattle.nq_log.specs.Stage.{built_step}
+use Rattle.nq_log.specs.Built.{IsBuilt, BuiltLog}
 use Rattle.nq_log.proofs.Options.{nothing_found, found_same}
-use Rattle.nq_log.proofs.Blocks.{read_so, one_block_law}
+use Rattle.nq_log.proofs.Blocks.{by_first, read_so, Agrees, block_read, all_agree}
 
 -- ---- a text of lines is cut into them
 
@@ -48,26 +50,26 @@ map_append (x ∷ xs) ys = ap (λ (zs : List (List ℕ)). spelling x ∷ zs) (ma
 abbrev right_reading : List Claim → Reading
 right_reading claims = record { claims = claims; ending = Right }
 
-blocks_read : (n : ℕ) (h : History) (blocks : List (List Line)) (claims : List Claim) → Each (Each IsSpellable) blocks → blocks_claim h blocks ≡ Some claims →
-    read_lines step n (start_of h) (map spelling (lines_of blocks)) [] ≡ right_reading claims
-blocks_read n h [] claims all e = read_so step n (start_of h) (spelling end_line) [] [] end_line (Some Ends) tt refl refl ∙ ap right_reading (found_same [] claims e)
-blocks_read n h (block ∷ blocks) claims all e =
-    by_claim (λ c claims e. blocks_read (n + length block) (after_claim h c) blocks claims all.1 e) (block_claim (start_of h) block) refl e
+blocks_read : (next : State → Line → Option Step) → Agrees next end_line → (n : ℕ) (h : History) (blocks : List (List Line)) (claims : List Claim) → Each (Each IsSpellable) blocks →
+    Each (Each (Agrees next)) blocks → blocks_claim h blocks ≡ Some claims → read_lines next n (start_of h) (map spelling (lines_of blocks)) [] ≡ right_reading claims
+blocks_read next last n h [] claims all agreed e = read_so next n (start_of h) (spelling end_line) [] [] end_line (Some Ends) tt refl (last (start_of h)) ∙ ap right_reading (found_same [] claims e)
+blocks_read next last n h (block ∷ blocks) claims all agreed e =
+    by_claim (λ c claims e. blocks_read next last (n + length block) (after_claim h c) blocks claims all.1 agreed.1 e) (block_claim (start_of h) block) refl e
   where
     by_rest : (c : Claim) → block_claim (start_of h) block ≡ Some c →
-        ((claims : List Claim) → blocks_claim (after_claim h c) blocks ≡ Some claims → read_lines step (n + length block) (start_of (after_claim h c)) (map spelling (lines_of blocks)) [] ≡ right_reading claims) →
+        ((claims : List Claim) → blocks_claim (after_claim h c) blocks ≡ Some claims → read_lines next (n + length block) (start_of (after_claim h c)) (map spelling (lines_of blocks)) [] ≡ right_reading claims) →
         (o : Option (List Claim)) → blocks_claim (after_claim h c) blocks ≡ o → elim o as (λ o. Option (List Claim)) [ None ↦ None | Some claims ↦ Some (c ∷ claims) ] ≡ Some claims →
-        read_lines step n (start_of h) (map spelling (block ++ lines_of blocks)) [] ≡ right_reading claims
+        read_lines next n (start_of h) (map spelling (block ++ lines_of blocks)) [] ≡ right_reading claims
     by_rest c f on None g e = absurd (nothing_found claims e)
     by_rest c f on (Some others) g e =
-        ap (λ (ls : List (List ℕ)). read_lines step n (start_of h) ls []) (map_append block (lines_of blocks))
-        ∙ (one_block_law n (start_of h) block (map spelling (lines_of blocks)) [] c all.0 f
+        ap (λ (ls : List (List ℕ)). read_lines next n (start_of h) ls []) (map_append block (lines_of blocks))
+        ∙ (block_read next n (start_of h) block (map spelling (lines_of blocks)) [] c all.0 agreed.0 f
         ∙ (ap (with_claim c) (on others g) ∙ ap right_reading (found_same (c ∷ others) claims e)))
 
-    by_claim : ((c : Claim) (claims : List Claim) → blocks_claim (after_claim h c) blocks ≡ Some claims → read_lines step (n + length block) (start_of (after_claim h c)) (map spelling (lines_of blocks)) [] ≡ right_reading claims) →
+    by_claim : ((c : Claim) (claims : List Claim) → blocks_claim (after_claim h c) blocks ≡ Some claims → read_lines next (n + length block) (start_of (after_claim h c)) (map spelling (lines_of blocks)) [] ≡ right_reading claims) →
         (o : Option Claim) → block_claim (start_of h) block ≡ o →
         elim o as (λ o. Option (List Claim)) [ None ↦ None | Some c ↦ elim (blocks_claim (after_claim h c) blocks) as (λ o. Option (List Claim)) [ None ↦ None | Some claims ↦ Some (c ∷ claims) ] ] ≡ Some claims →
-        read_lines step n (start_of h) (map spelling (block ++ lines_of blocks)) [] ≡ right_reading claims
+        read_lines next n (start_of h) (map spelling (block ++ lines_of blocks)) [] ≡ right_reading claims
     by_claim on None f e = absurd (nothing_found claims e)
     by_claim on (Some c) f e = by_rest c f (on c) (blocks_claim (after_claim h c) blocks) refl e
 
@@ -79,14 +81,25 @@ all_spellable (block ∷ blocks) all = each_append IsSpellable block (lines_of b
 header_read : line_of (spelling header_line) ≡ Some header_line
 header_read = line_again header_line (tt, tt)
 
--- the reading of a log, by its first line
-abbrev after_header : List (List ℕ) → Option Line → Reading
-after_header lines o = elim o as (λ o. Reading) [
-  | None ↦ wrong 1 Malformed
-  | Some line ↦ elim (is_header line.word) as (λ b. Reading) [ true ↦ read_lines step 2 (start_of []) lines [] | false ↦ wrong 1 NotAllowed ]
-]
+-- the text of blocks is read so by each reading that agrees about their lines and the last
+pub log_read : (next : State → Line → Option Step) (blocks : List (List Line)) (claims : List Claim) → Agrees next end_line → Each (Each IsSpellable) blocks → Each (Each (Agrees next)) blocks →
+    blocks_claim [] blocks ≡ Some claims → reading_by next (log_text blocks) ≡ right_reading claims
+log_read next blocks claims last all agreed e =
+    ap (λ (c : Cut). read_log next c.0 c.1) (cut_text (header_line ∷ lines_of blocks) ((tt, tt), all_spellable blocks all))
+    ∙ (ap (by_first next (map spelling (lines_of blocks)) []) header_read ∙ blocks_read next last 2 [] blocks claims all agreed e)
+
+all_agree_in : (blocks : List (List Line)) → Each (Each (Agrees step)) blocks
+all_agree_in [] = tt
+all_agree_in (block ∷ blocks) = (all_agree block, all_agree_in blocks)
 
 pub one_log_law : OneLog
-one_log_law blocks claims all e =
-    ap (λ (c : Cut). read_log step c.0 c.1) (cut_text (header_line ∷ lines_of blocks) ((tt, tt), all_spellable blocks all))
-    ∙ (ap (after_header (map spelling (lines_of blocks))) header_read ∙ blocks_read 2 [] blocks claims all e)
+one_log_law blocks claims all e = log_read step blocks claims (λ s. refl) all (all_agree_in blocks) e
+
+-- ---- a reading where only built lines are allowed agrees about them
+
+built_agrees : (line : Line) → IsBuilt line → Agrees built_step line
+built_agrees line built s = ap (λ b. only_when b line >>= λ line. step s line) built
+
+pub built_log_law : BuiltLog
+built_log_law blocks claims all built e =
+    log_read built_step blocks claims (built_agrees end_line refl) all (each_mono (Each IsBuilt) (Each (Agrees built_step)) (each_mono IsBuilt (Agrees built_step) built_agrees) blocks built) e

@@ -9,5 +9,6 @@ pub mod Laws
 pub mod Blocks
 pub mod Growing
 pub mod Stage
+pub mod Built
 pub mod Streams
 pub mod Readers

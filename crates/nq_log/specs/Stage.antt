@@ -11,10 +11,7 @@ use Rattle.nq_log.specs.Logs.{step}
 -- the first words whose lines are built
 abbrev pub is_built_word : Word → Bool
 is_built_word word.Function = false
-is_built_word word.Value = false
 is_built_word word.Linear = false
-is_built_word word.Shell = false
-is_built_word word.Part = false
 is_built_word word.Defn = false
 is_built_word word.Measure = false
 is_built_word w = true

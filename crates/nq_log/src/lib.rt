@@ -12,6 +12,7 @@
 ghost use Rattle.nq_log.specs.Laws.{RightClaims, NarrowClaims, BuiltNarrows, StepsIgnoreClasses};
 ghost use Rattle.nq_log.specs.Growing.{OneMoreLine, ClosingLine, OneMoreBlock, MoreText, OneMoreClaim};
 ghost use Rattle.nq_log.specs.Blocks.{OneCut, NoCut, OneBlock, OneLog};
+ghost use Rattle.nq_log.specs.Built.{BuiltLog};
 ghost use Rattle.nq_log.specs.Readers.{ReaderBegins, ReaderTakes, ReaderMoves, ReaderClaims, ReaderStops, ReaderEnds};
 ghost use Rattle.nq_log.specs.Streams.{LineMoves, TextEnds, NothingFollows, LineIsRead, NoLineIsRead};
 
@@ -63,9 +64,11 @@ pub fn one_block()
     ensures { OneBlock }
 {}
 
-/// The text of blocks that end in claims is a right log with these claims.
+/// The text of blocks that end in claims is a right log with these claims. So it is where fewer lines are allowed than in a
+/// log, as those that are built so far, if all lines of the blocks are among them.
 pub fn one_log()
-    ensures { OneLog }
+    ensures right { OneLog }
+    ensures built { BuiltLog }
 {}
 
 /// A log grows at its end by lines, closing lines and blocks, and its text with it.

@@ -1,8 +1,10 @@
 pub mod Elements
-pub mod TakingLemmas
+pub mod SmallTautologies
 pub mod Deriving
 pub mod SpelledLemmas
-pub mod ProofLemmas
+pub mod EventSpelling
 pub mod SessionLemmas
+pub mod TakingLemmas
 pub mod LogLemmas
+pub mod BuiltLemmas
 pub mod RunLemmas

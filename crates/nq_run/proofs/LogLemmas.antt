@@ -1,21 +1,26 @@
 -- The log of a run goes on by the block of one form.
-use Rattle.std.proofs.Common.{◌≡◌, ℕ, Bool, true, false, List, [], ◌∷◌, ◌++◌, Option, refl, sym, ap, ◌∙◌, subst, append_assoc, append-nil}
+use Rattle.std.proofs.Common.{◌≡◌, ℕ, Bool, true, false, List, [], ◌∷◌, ◌++◌, length, Option, refl, sym, ap, ◌∙◌, subst, append_assoc, append-nil}
 use Rattle.std.specs.Io.KnownBytes.{Appends, Keeps}
 use Rattle.std.proofs.KnownBytes.{Appends-nil, Appends-trans, Appends-kept}
 use Rattle.nq_logic.specs.Histories.{History}
 use Rattle.nq_logic.specs.Histories as logic
 use Rattle.nq_logic.specs.Classes.{without_class, without_classes}
 use Rattle.nq_form.specs.Form.{Form, Forms, end, dotted, next, push}
-use Rattle.nq_log.specs.States.{Claim, Grounded, Adds, after_claim}
+use Rattle.nq_log.specs.States.{Claim, Grounded, Adds, Undoes, after_claim}
+use Rattle.nq_logic.specs.Names.{before_event}
+use Rattle.nq_logic.proofs.Classes.{classes_change_nothing_law}
+use Rattle.std.specs.Prelude.{None, if◌then◌else◌}
 use Rattle.nq_block.specs.Blocks.{IsBlock}
 use Rattle.nq_block.specs.OpenLogs.{IsOpenLog}
 use Rattle.nq_block.proofs.OpenLaws.{block_follows_law}
-use Rattle.nq_comment.specs.Reports.{Answer, Accepted, Proved, Refused, Report}
-use Rattle.nq_run.specs.Claims.{claims_at, claims_from, claims_of}
-use Rattle.nq_run.specs.Events.{Event, BootStrap, Lemma, Other, event_of}
+use Rattle.nq_comment.specs.Reports.{Answer, Report}
+use Rattle.nq_run.specs.Claims.{claims_at, claims_from, claims_of, event_claims}
+use Rattle.nq_events.specs.Events.{Event, BootStrap, AddShell, Dcl, Defn, AddAxiom, ProveLemma, Toggle, Undo, Skipped}
+use Rattle.nq_events.specs.Reading.{event_of}
+use Rattle.nq_events.specs.Effects.{defined, history_after}
 use Rattle.nq_run.specs.Outcome.{Answered, AreBlocks, GrowsWithin, IsLogOf, Logs, LogsWithin}
-use Rattle.nq_run.specs.Spelled.{IsSpelled, AreSpelled}
-use Rattle.nq_run.specs.Steps.{Runs, after, after_event}
+use Rattle.nq_spelling.specs.Spelled.{IsSpelled, AreSpelled}
+use Rattle.nq_run.specs.Steps.{Runs, after, after_event, is_taken}
 
 -- ---- what the log's sink gains
 
@@ -85,30 +90,24 @@ spelled_more old (next f fs) (r ∷ rs) mid form runs spelled =
 -- ---- the claims
 
 pub claims_more : (old : History) (done : Forms) (reports : List Report) (mid : History) (form : Form) (report : Report) → Runs old done reports mid
-    → claims_from (push done form) (reports ++ report ∷ []) ≡ claims_from done reports ++ claims_at form report.answer
-claims_more old end [] mid form report runs = append-nil (claims_at form report.answer)
+    → claims_from old (push done form) (reports ++ report ∷ []) ≡ claims_from old done reports ++ claims_at mid form report.answer
+claims_more old end [] mid form report runs = append-nil (claims_at old form report.answer) ∙ ap (λ (h : History). claims_at h form report.answer) (sym runs)
 claims_more old end (r ∷ rs) mid form report runs = absurd runs
 claims_more old (dotted f) [] mid form report runs = absurd runs
 claims_more old (dotted f) (r ∷ rs) mid form report runs = absurd runs
 claims_more old (next f fs) [] mid form report runs = absurd runs
 claims_more old (next f fs) (r ∷ rs) mid form report runs =
-    ap (λ (claims : List Claim). claims_at f r.answer ++ claims) (claims_more (after old f r.answer) fs rs mid form report runs.1)
-    ∙ sym (append_assoc (claims_at f r.answer) (claims_from fs rs) (claims_at form report.answer))
-
-without_append : (g h : History) → without_classes (g ++ h) ≡ without_classes g ++ without_classes h
-without_append [] h = refl
-without_append (e ∷ g) h = ap (λ (k : History). without_class e ∷ k) (without_append g h)
+    ap (λ (claims : List Claim). claims_at old f r.answer ++ claims) (claims_more (after old f r.answer) fs rs mid form report runs.1)
+    ∙ sym (append_assoc (claims_at old f r.answer) (claims_from (after old f r.answer) fs rs) (claims_at mid form report.answer))
 
 open_as : (t u : List ℕ) (c d : List Claim) (h k : History) → t ≡ u → c ≡ d → h ≡ k → IsOpenLog t c h → IsOpenLog u d k
 open_as t u c d h k text claims history opened =
     subst (λ (z : History). IsOpenLog u d z) history (subst (λ (z : List Claim). IsOpenLog u z h) claims (subst (λ (z : List ℕ). IsOpenLog z c h) text opened))
 
 -- where nothing is claimed
-open_same : (log : List ℕ) (claims : List Claim) (old new : History) (block : List ℕ) → IsOpenLog log claims (without_classes old) → block ≡ [] → new ≡ old
-    → IsOpenLog (log ++ block) (claims ++ []) (without_classes new)
-open_same log claims old new block opened none same =
-    open_as log (log ++ block) claims (claims ++ []) (without_classes old) (without_classes new)
-    (sym (append-nil log) ∙ ap (λ (t : List ℕ). log ++ t) (sym none)) (sym (append-nil claims)) (ap without_classes (sym same)) opened
+open_same : (log : List ℕ) (claims : List Claim) (old : History) (block : List ℕ) → IsOpenLog log claims (without_classes old) → block ≡ [] → IsOpenLog (log ++ block) (claims ++ []) (without_classes old)
+open_same log claims old block opened none =
+    open_as log (log ++ block) claims (claims ++ []) (without_classes old) (without_classes old) (sym (append-nil log) ∙ ap (λ (t : List ℕ). log ++ t) (sym none)) (sym (append-nil claims)) refl opened
 
 -- where a block claims something
 open_claim : (log : List ℕ) (claims : List Claim) (old new : History) (block : List ℕ) (c : Claim) → IsOpenLog log claims (without_classes old) → IsBlock old c block
@@ -116,17 +115,33 @@ open_claim : (log : List ℕ) (claims : List Claim) (old new : History) (block :
 open_claim log claims old new block c opened is makes =
     subst (λ (z : History). IsOpenLog (log ++ block) (claims ++ c ∷ []) z) makes (block_follows_law log block claims (without_classes old) old c opened is refl)
 
-open_event : (log : List ℕ) (claims : List Claim) (old new : History) (block : List ℕ) (e : Event) (answer : Answer) → IsOpenLog log claims (without_classes old)
-    → AreBlocks old (claims_of e answer) block → new ≡ after_event old e answer → IsOpenLog (log ++ block) (claims ++ claims_of e answer) (without_classes new)
-open_event log claims old new block BootStrap Accepted opened is same = open_claim log claims old new block Grounded opened is (ap without_classes (sym same))
-open_event log claims old new block BootStrap (Proved quick) opened is same = open_same log claims old new block opened is same
-open_event log claims old new block BootStrap (Refused code words) opened is same = open_same log claims old new block opened is same
-open_event log claims old new block (Lemma name term) Accepted opened is same = open_same log claims old new block opened is same
-open_event log claims old new block (Lemma name term) (Proved quick) opened is same =
-    let e = logic.Lemma name [] term in
-    open_claim log claims old new block (Adds e) opened is (sym (without_append old (e ∷ [])) ∙ ap without_classes (sym same))
-open_event log claims old new block (Lemma name term) (Refused code words) opened is same = open_same log claims old new block opened is same
-open_event log claims old new block Other answer opened is same = open_same log claims old new block opened is same
+-- where it claims an event
+open_added : (log : List ℕ) (claims : List Claim) (old : History) (block : List ℕ) (e : logic.Event) → IsOpenLog log claims (without_classes old) → IsBlock old (Adds (without_class e)) block
+    → IsOpenLog (log ++ block) (claims ++ Adds (without_class e) ∷ []) (without_classes (old ++ e ∷ []))
+open_added log claims old block e opened is = open_claim log claims old (old ++ e ∷ []) block (Adds (without_class e)) opened is (sym ((classes_change_nothing_law old).appended (e ∷ [])))
+
+module _ (log : List ℕ) (claims : List Claim) (old : History) (block : List ℕ) (opened : IsOpenLog log claims (without_classes old)) where
+  -- an event that was taken
+  open_taken : (e : Event) → AreBlocks old (event_claims e) block → IsOpenLog (log ++ block) (claims ++ event_claims e) (without_classes (history_after old e None))
+  open_taken BootStrap is = open_claim log claims old [] block Grounded opened is refl
+  open_taken (AddShell shell) is = open_added log claims old block (logic.AddShell shell) opened is
+  open_taken (Dcl name formals) is = open_added log claims old block (logic.Declaration name (length formals)) opened is
+  open_taken (Defn name formals body measures) is = open_added log claims old block (defined name formals body None) opened is
+  open_taken (AddAxiom name classes t) is = open_added log claims old block (logic.Axiom name classes t) opened is
+  open_taken (ProveLemma name classes t hints) is = open_added log claims old block (logic.Lemma name classes t) opened is
+  open_taken (Toggle name other disabled) is = open_added log claims old block (logic.Toggle name other disabled) opened is
+  open_taken (Undo name) is = open_claim log claims old (before_event name old) block (Undoes name) opened is ((classes_change_nothing_law old).undone name)
+  open_taken Skipped is = open_same log claims old block opened is
+
+  open_by : (e : Event) (b : Bool) → AreBlocks old (if b then event_claims e else []) block
+      → IsOpenLog (log ++ block) (claims ++ (if b then event_claims e else [])) (without_classes (if b then history_after old e None else old))
+  open_by e true is = open_taken e is
+  open_by e false is = open_same log claims old block opened is
+
+  open_event : (new : History) (e : Event) (answer : Answer) → AreBlocks old (claims_of e answer) block → new ≡ after_event old e answer
+      → IsOpenLog (log ++ block) (claims ++ claims_of e answer) (without_classes new)
+  open_event new e answer is same =
+      subst (λ (h : History). IsOpenLog (log ++ block) (claims ++ claims_of e answer) (without_classes h)) (sym same) (open_by e (is_taken answer) is)
 
 -- the log with the block of one form more
 pub log_more : (done : Forms) (reports : List Report) (old new : History) (form : Form) (report : Report) (log block : List ℕ) → Runs [] done reports old
@@ -136,6 +151,6 @@ log_more done reports old new form report log block runs so_far answered spelled
     let before = so_far both.0 in
     let is = answered.written refl before.1 both.1 in (
       subst (λ (claims : List Claim). IsOpenLog (log ++ block) claims (without_classes new)) (sym (claims_more [] done reports old form report runs))
-          (open_event log (claims_from done reports) old new block (event_of form) report.answer before.0 is answered.step.history),
+          (open_event log (claims_from [] done reports) old block before.0 new (event_of old form) report.answer is answered.step.history),
       answered.symbols before.1 both.1,
     )

@@ -20,11 +20,12 @@ use Rattle.nq_comment.specs.ReportViews.{ending_of}
 use Rattle.nq_comment.specs.declared.report.SyntaxFault.{SyntaxFault}
 use Rattle.nq_logic.specs.Classes.{without_classes}
 use Rattle.nq_block.specs.OpenLogs.{IsOpenLog, header_text, end_text}
-use Rattle.nq_block.proofs.OpenLaws.{log_begins_law, log_ends_law}
+use Rattle.nq_block.proofs.OpenLaws.{log_begins_law}
 use Rattle.nq_block.proofs.SymbolLaws.{symbols_begin_law}
 use Rattle.nq_run.specs.Claims.{claims_from}
-use Rattle.nq_run.specs.Spelled.{AreSpelled}
+use Rattle.nq_spelling.specs.Spelled.{AreSpelled}
 use Rattle.nq_run.proofs.SpelledLemmas.{items_spelled}
+use Rattle.nq_run.proofs.BuiltLemmas.{right_log}
 use Rattle.nq_run.proofs.LogLemmas.{log_more, logs_after, logs_same, logs_within, logs_within_after, no_logs, within_after, within_kept, within_whole}
 use Rattle.nq_block.specs.Names.{HasSymbols}
 use Rattle.nq_run.specs.Outcome as outcome
@@ -242,12 +243,13 @@ own_ending None = tt
 own_ending (Some f) = tt
 
 finished_log : (logging : Bool) (ending : Ending) (forms : Forms) (reports : List Report) (history : History) (a c : Option (List ℕ)) (log : List ℕ)
-    → Logs logging a c (log ++ last_text ending) → (logging ≡ true → IsLogOf forms reports history log) → IsEnded ending → AreSpelled forms → FinishedLog logging ending forms reports a c
-finished_log logging done forms reports history a c log logs is ended spelled =
-    record { log = log ++ end_text; logs = logs; log_is = λ w. log_ends_law log (claims_from forms reports) (without_classes history) (is w spelled).0 }
-finished_log logging (fault code offset) forms reports history a c log logs is ended spelled =
+    → Logs logging a c (log ++ last_text ending) → (logging ≡ true → IsLogOf forms reports history log) → Runs [] forms reports history → IsEnded ending → AreSpelled forms
+    → FinishedLog logging ending forms reports a c
+finished_log logging done forms reports history a c log logs is runs ended spelled =
+    record { log = log ++ end_text; logs = logs; log_is = λ w. right_log forms reports history (without_classes history) log runs (is w spelled).0 }
+finished_log logging (fault code offset) forms reports history a c log logs is runs ended spelled =
     record { log = log; logs = subst (Logs logging a c) (append-nil log) logs; log_is = λ w. (without_classes history, (is w spelled).0) }
-finished_log logging too_long forms reports history a c log logs is ended spelled = absurd ended
+finished_log logging too_long forms reports history a c log logs is runs ended spelled = absurd ended
 
 pub Ran-finished : (logging : Bool) (left : Option (List ℕ)) (spelling : Option SyntaxFault) (forms : Forms) (history : History) (t : Totals) (count : ℕ) (a b c : outcome.Held)
     (ran : Ran logging forms history t count a b)
@@ -260,7 +262,7 @@ Ran-finished logging left spelling forms history t count a b c ran reads begun c
   text = Appends-trans a.comment b.comment c.comment _ _ ran.text (subst (λ (u : Totals). Appends b.comment c.comment (closing_lines (ending_of spelling) u)) ran.counted closes);
   log = if_spelled left forms (FinishedLog logging (ending_of spelling) forms ran.reports a.log c.log) begun
       (finished_log logging (ending_of spelling) forms ran.reports history a.log c.log ran.log
-      (logs_after logging a.log b.log c.log ran.log (last_text (ending_of spelling)) ran.logs last) ran.log_is (own_ending spelling));
+      (logs_after logging a.log b.log c.log ran.log (last_text (ending_of spelling)) ran.logs last) ran.log_is ran.runs (own_ending spelling));
   no_log = no_logs logging a.log c.log (ran.log ++ last_text (ending_of spelling))
       (logs_after logging a.log b.log c.log ran.log (last_text (ending_of spelling)) ran.logs last);
 }

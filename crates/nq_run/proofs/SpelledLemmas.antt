@@ -1,10 +1,9 @@
--- Forms of a text have symbols in upper case for names, and so have their events.
-use Rattle.std.proofs.Common.{◌≡◌, ◌<◌, ◌≤◌, ℕ, zero, suc, Bool, true, false, List, [], ◌∷◌, length, Option, refl, ap, sym, subst, inl, inr, arith, leb-true, le-leb, eqb-true}
+-- Forms of a text have symbols in upper case for names.
+use Rattle.std.proofs.Common.{◌≡◌, ◌<◌, ◌≤◌, ℕ, zero, suc, Bool, true, false, List, [], ◌∷◌, length, refl, ap, sym, subst, inl, inr, arith, leb-true, le-leb, eqb-true}
 use Rattle.std.proofs.lemmas.List.{length-map}
-use Rattle.std.specs.Prelude.{◌⊎◌, ◌&&◌, ◌||◌, not, IsTrue, IfSome, None, Some, nat_eq, nat_le, map, bytes_eq, codes, if◌then◌else◌}
+use Rattle.std.specs.Prelude.{◌⊎◌, ◌&&◌, ◌||◌, not, IsTrue, nat_eq, nat_le, map, if◌then◌else◌}
 use Rattle.std.specs.List.{list_all}
-use Rattle.std.specs.Option.{option_and_then, option_map, option_map_or}
-use Rattle.nq_form.specs.Form.{Form, Forms, symbol, numeral, text, quoted, listed, end, dotted, next, push, append}
+use Rattle.nq_form.specs.Form.{Form, Forms, text, quoted, listed, end, dotted, next, push, append}
 use Rattle.nq_form.specs.Bytes as form
 use Rattle.nq_form.specs.Bytes.{is_between, upper}
 use Rattle.nq_form.specs.Token as token_of
@@ -12,11 +11,7 @@ use Rattle.nq_form.specs.Token.{IsSymbol, Token, name, number}
 use Rattle.nq_form.specs.Grammar.{Items, none, blank, token, string, quote, nested, tailed}
 use Rattle.nq_form.proofs.Spelling.{and_front, and_back}
 use Rattle.nq_logtext.specs.Symbols as log
-use Rattle.nq_logic.specs.Terms.{Each}
-use Rattle.nq_logic.specs.Names.{has_name, constant_names}
-use Rattle.nq_kernel.specs.Over.{IsVariable}
-use Rattle.nq_run.specs.Events.{Event, BootStrap, Other, elements, event_in, event_of, is_boot_strap, is_head, is_symbol, is_variable, lemma_of, proper, same_variable, symbol_in, variable_in, variable_of}
-use Rattle.nq_run.specs.Spelled.{AreSpelled, IsSpelled, IsSpelledEvent}
+use Rattle.nq_spelling.specs.Spelled.{AreSpelled, IsSpelled}
 
 -- ---- what holds of each byte below a bound, by a table
 
@@ -167,93 +162,3 @@ items_spelled levels t fs (nested {d = d} {t = u} {u = v} {fs = gs} {gs = inner}
 items_spelled levels t fs (tailed {d = d} {t = u} {u = v} {v = w} {fs = gs} {gs = inner} {f = f} {g = g} p q r c b) =
     push_spelled gs (listed (append (next g inner) (dotted f))) (items_spelled (suc d) u gs p)
     (append_spelled (next g inner) (dotted f) (items_spelled d v (next g inner) q) (items_spelled d w (next f end) r).0)
-
--- ---- the event of a form
-
-one_more : (o : Option (List Form)) (f : Form) → IsSpelled f → IfSome o (Each IsSpelled) → IfSome (option_map (λ rest. f ∷ rest) o) (Each IsSpelled)
-one_more None f h k = tt
-one_more (Some fs) f h k = (h, k)
-
-proper_spelled : (fs : Forms) → AreSpelled fs → IfSome (proper fs) (Each IsSpelled)
-proper_spelled end h = tt
-proper_spelled (dotted f) h = tt
-proper_spelled (next f fs) h = one_more (proper fs) f h.0 (proper_spelled fs h.1)
-
-elements_spelled : (f : Form) → IsSpelled f → IfSome (elements f) (Each IsSpelled)
-elements_spelled (symbol n) h = tt
-elements_spelled (numeral negative n) h = tt
-elements_spelled (text bytes) h = tt
-elements_spelled (quoted f) h = tt
-elements_spelled (listed fs) h = proper_spelled fs h
-
-symbol_spelled : (f : Form) → IsSpelled f → IfSome (symbol_in f) (λ n. IsTrue (log.is_symbol n))
-symbol_spelled (symbol n) h = h
-symbol_spelled (numeral negative n) h = tt
-symbol_spelled (text bytes) h = tt
-symbol_spelled (quoted f) h = tt
-symbol_spelled (listed fs) h = tt
-
-none_of : (a b c : Bool) → IsTrue (not a && (not b && not c)) → (a || (b || (c || false))) ≡ false
-none_of true b c e = absurd cc
-none_of false true c e = absurd cc
-none_of false false true e = absurd cc
-none_of false false false e = refl
-
--- what is no constant is none of these names
-no_constant : (n : List ℕ) → IsTrue (is_variable n) → has_name n constant_names ≡ false
-no_constant n h = none_of (bytes_eq n (codes "T")) (bytes_eq n (codes "F")) (bytes_eq n (codes "NIL")) h
-
-same_spelled : (left right : Option (List ℕ)) → IfSome left (λ n. IsTrue (log.is_symbol n)) → IfSome (same_variable left right) IsVariable
-same_spelled None right h = tt
-same_spelled (Some n) None h = tt
-same_spelled (Some n) (Some m) h = chosen (bytes_eq n m && is_variable n) refl
-  where
-    chosen : (b : Bool) → (bytes_eq n m && is_variable n) ≡ b → IfSome (if b then Some n else None) IsVariable
-    chosen true e = record { symbol = h; other = no_constant n (and_back (bytes_eq n m) (is_variable n) e) }
-    chosen false e = tt
-
-some_if : (b : Bool) (o : Option (List ℕ)) → IfSome o IsVariable → IfSome (if b then o else None) IsVariable
-some_if true o h = h
-some_if false o h = tt
-
-variable_in_spelled : (items : List Form) → Each IsSpelled items → IfSome (variable_in items) IsVariable
-variable_in_spelled [] h = tt
-variable_in_spelled (head ∷ []) h = tt
-variable_in_spelled (head ∷ (left ∷ [])) h = tt
-variable_in_spelled (head ∷ (left ∷ (right ∷ []))) h =
-    some_if (is_symbol (codes "IMPLIES") head) (same_variable (symbol_in left) (symbol_in right)) (same_spelled (symbol_in left) (symbol_in right) (symbol_spelled left h.1.0))
-variable_in_spelled (head ∷ (left ∷ (right ∷ (more ∷ rest)))) h = tt
-
-variable_spelled : (f : Form) → IsSpelled f → IfSome (variable_of f) IsVariable
-variable_spelled f h = go (elements f) (elements_spelled f h)
-  where
-    go : (o : Option (List Form)) → IfSome o (Each IsSpelled) → IfSome (option_and_then variable_in o) IsVariable
-    go None k = tt
-    go (Some items) k = variable_in_spelled items k
-
-lemma_spelled : (n v : Option (List ℕ)) → IfSome n (λ w. IsTrue (log.is_symbol w)) → IfSome v IsVariable → IsSpelledEvent (lemma_of n v)
-lemma_spelled None v h k = tt
-lemma_spelled (Some n) None h k = tt
-lemma_spelled (Some n) (Some v) h k = (h, ((tt, k), k))
-
-either_spelled : (b : Bool) (e : Event) → IsSpelledEvent e → IsSpelledEvent (if b then e else Other)
-either_spelled true e h = h
-either_spelled false e h = tt
-
-in_spelled : (items : List Form) → Each IsSpelled items → IsSpelledEvent (event_in items)
-in_spelled [] h = tt
-in_spelled (head ∷ []) h = either_spelled (is_symbol (codes "BOOT-STRAP") head) BootStrap tt
-in_spelled (head ∷ (theory ∷ [])) h = either_spelled (is_boot_strap head theory) BootStrap tt
-in_spelled (head ∷ (second ∷ (third ∷ []))) h = tt
-in_spelled (head ∷ (n ∷ (types ∷ (term ∷ [])))) h =
-    either_spelled (is_head head types) (lemma_of (symbol_in n) (variable_of term))
-    (lemma_spelled (symbol_in n) (variable_of term) (symbol_spelled n h.1.0) (variable_spelled term h.1.1.1.0))
-in_spelled (head ∷ (second ∷ (third ∷ (fourth ∷ (fifth ∷ rest))))) h = tt
-
--- what a spelled form asks for can be spelled in a log
-pub event_spelled : (f : Form) → IsSpelled f → IsSpelledEvent (event_of f)
-event_spelled f h = go (elements f) (elements_spelled f h)
-  where
-    go : (o : Option (List Form)) → IfSome o (Each IsSpelled) → IsSpelledEvent (option_map_or event_in o Other)
-    go None k = tt
-    go (Some items) k = in_spelled items k

@@ -3,8 +3,22 @@ use Rattle.std.specs.Prelude.{ℕ, Bool, List, [], ◌∷◌, Option, Some, None
 use Rattle.std.specs.List.{list_any}
 use Rattle.std.specs.Option.{option_and_then}
 use Rattle.std.specs.Str.{bytes_eq}
-use Rattle.nq_form.specs.Form.{Form}
-use Rattle.nq_run.specs.Events.{front_elements, symbol_in}
+use Rattle.nq_form.specs.Form.{Form, Forms, symbol, numeral, text, quoted, listed, end, dotted, next}
+use Rattle.nq_events.specs.Parts.{symbol_in}
+
+-- what stands in a list before its end or its dot
+abbrev pub undotted : Forms → List Form
+undotted end = []
+undotted (dotted f) = []
+undotted (next f fs) = f ∷ undotted fs
+
+-- the elements of a list, but for one behind a dot
+abbrev pub front_elements : Form → Option (List Form)
+front_elements (symbol name) = None
+front_elements (numeral negative n) = None
+front_elements (text bytes) = None
+front_elements (quoted f) = None
+front_elements (listed fs) = Some (undotted fs)
 
 abbrev pub first_symbol_in : List Form → Option (List ℕ)
 first_symbol_in [] = None

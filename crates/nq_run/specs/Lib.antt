@@ -1,9 +1,7 @@
-pub mod Events
 pub mod Headers
-pub mod EventViews
 pub mod HistoryView
 pub mod Steps
-pub mod Taking
+pub mod Answers
 pub mod Derived
 pub mod Claims
 pub mod Spelled

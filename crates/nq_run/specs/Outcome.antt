@@ -9,7 +9,8 @@ use Rattle.nq_form.specs.Grammar.{Items, Reads, Ending, done, fault, too_long}
 use Rattle.nq_sexp.specs.Whole.{IsEnding}
 use Rattle.nq_sexp.specs.declared.fault.ReadFault.{ReadFault}
 use Rattle.nq_log.specs.States.{Claim}
-use Rattle.nq_log.specs.Logs.{Right, reading_of}
+use Rattle.nq_log.specs.Logs.{Right, reading_by, reading_of}
+use Rattle.nq_log.specs.Stage.{built_step}
 use Rattle.nq_block.specs.Blocks.{IsBlock}
 use Rattle.nq_block.specs.Names.{HasSymbols}
 use Rattle.nq_block.specs.OpenLogs.{IsOpenLog, end_text}
@@ -20,7 +21,7 @@ use Rattle.nq_comment.specs.Totals.{Totals, totals_of, unsuccessful, with_report
 use Rattle.nq_comment.specs.declared.report.SyntaxFault.{SyntaxFault}
 use Rattle.nq_run.specs.Claims.{claims_at, claims_from}
 use Rattle.nq_run.specs.Derived.{Reported}
-use Rattle.nq_run.specs.Spelled.{IsSpelled, AreSpelled}
+use Rattle.nq_spelling.specs.Spelled.{IsSpelled, AreSpelled}
 use Rattle.nq_run.specs.Steps.{Runs, Step, after}
 
 -- what is held grew by the text, or by a front part of it
@@ -71,7 +72,7 @@ AreBlocks h (c ∷ (d ∷ claims)) text = ⊥
 -- claims wherever its names can be spelled.
 pub record Answered (form : Form) (old new : History) (report : Report) (logging : Bool) (block : List ℕ) : Type 0 where
   pub step : Step old form report new
-  pub written : logging ≡ true → HasSymbols old → IsSpelled form → AreBlocks old (claims_at form report.answer) block
+  pub written : logging ≡ true → HasSymbols old → IsSpelled form → AreBlocks old (claims_at old form report.answer) block
   pub symbols : HasSymbols old → IsSpelled form → HasSymbols new
 
 -- one form was run, and the sinks gained the lines of its report and its block
@@ -107,7 +108,7 @@ pub record FilledLog (count number : ℕ) (form : Form) (old : History) (held no
 
 -- the log of these forms and reports, but for its last line, wherever names can be spelled
 abbrev pub IsLogOf : Forms → List Report → History → List ℕ → Type 0
-IsLogOf forms reports history text = AreSpelled forms → IsOpenLog text (claims_from forms reports) (without_classes history) × HasSymbols history
+IsLogOf forms reports history text = AreSpelled forms → IsOpenLog text (claims_from [] forms reports) (without_classes history) × HasSymbols history
 
 -- These forms were run from the ground history, and the sinks gained the lines of their reports, and the log with its first
 -- line, of so many bytes.
@@ -131,11 +132,17 @@ last_text done = end_text
 last_text (fault code offset) = []
 last_text too_long = []
 
+-- a right log with these claims
+pub record IsRightLog (claims : List Claim) (log : List ℕ) : Type 0 where
+  pub reads : reading_of log ≡ record { claims = claims; ending = Right }
+  -- all of its lines are built, so that it is right to the checker too
+  pub accepted : reading_by built_step log ≡ record { claims = claims; ending = Right }
+
 -- the log of a run that came to the end of its text: a right log with the claims of its forms, or, where the spelling of
 -- the text is wrong, one without its last line
 abbrev pub IsFinishedLog : Ending → Forms → List Report → List ℕ → Type 0
-IsFinishedLog done forms reports log = reading_of log ≡ record { claims = claims_from forms reports; ending = Right }
-IsFinishedLog (fault code offset) forms reports log = (history : History) × IsOpenLog log (claims_from forms reports) history
+IsFinishedLog done forms reports log = IsRightLog (claims_from [] forms reports) log
+IsFinishedLog (fault code offset) forms reports log = (history : History) × IsOpenLog log (claims_from [] forms reports) history
 IsFinishedLog too_long forms reports log = ⊥
 
 -- the log gained such a text; where no log is written it is as it was
@@ -149,14 +156,14 @@ pub record PartialLog (logging : Bool) (forms : Forms) (reports : List Report) (
   pub log : List ℕ
   pub history : History
   pub logs : LogsWithin logging held now log
-  pub log_is : logging ≡ true → IsOpenLog log (claims_from forms reports) history
+  pub log_is : logging ≡ true → IsOpenLog log (claims_from [] forms reports) history
 
 -- the same, and perhaps a front part of the last line behind it
 pub record PartialEnd (logging : Bool) (ending : Ending) (forms : Forms) (reports : List Report) (held now : Option (List ℕ)) : Type 0 where
   pub log : List ℕ
   pub history : History
   pub logs : LogsWithin logging held now (log ++ last_text ending)
-  pub log_is : logging ≡ true → IsOpenLog log (claims_from forms reports) history
+  pub log_is : logging ≡ true → IsOpenLog log (claims_from [] forms reports) history
 
 -- the whole text was read, and the sinks gained the whole commentary and the whole log
 pub record Finished (logging : Bool) (left : Option (List ℕ)) (ending : Ending) (reports : List Report) (held now : Held) : Type 0 where

@@ -1,27 +1,25 @@
--- What a log can spell: forms and events whose names are symbols in upper case, as those that are read of a text.
+-- Lemmas that a log can spell.
 use Rattle.std.specs.Prelude.{⊤, IsTrue}
-use Rattle.nq_form.specs.Form.{Form, Forms, symbol, numeral, text, quoted, listed, end, dotted, next}
+use Rattle.nq_logic.specs.Terms.{Name, Term}
+use Rattle.nq_logic.specs.Histories.{History}
 use Rattle.nq_logtext.specs.Symbols.{is_symbol}
-use Rattle.nq_kernel.specs.Over.{VariablesAre}
-use Rattle.nq_kernel.specs.Over.{IsVariable}
-use Rattle.nq_run.specs.Events.{Event, BootStrap, Lemma, Other}
+use Rattle.nq_block.specs.Closings.{IsClaimable}
+use Rattle.nq_events.specs.Events.{Event, BootStrap, AddShell, Dcl, Defn, AddAxiom, ProveLemma, Toggle, Undo, Skipped}
 
-abbrev mutual
-  -- each symbol of the form is a symbol in upper case
-  pub IsSpelled : Form → Type 0
-  IsSpelled (symbol name) = IsTrue (is_symbol name)
-  IsSpelled (numeral negative n) = ⊤
-  IsSpelled (text bytes) = ⊤
-  IsSpelled (quoted f) = IsSpelled f
-  IsSpelled (listed fs) = AreSpelled fs
+-- The lemma's name is a symbol in upper case. Its term is over the functions of the history and within the limits, and its variables
+-- are such symbols, none of which is T, F or NIL.
+pub record IsSpelledLemma (h : History) (name : Name) (t : Term) : Type 0 where
+  pub symbol : IsTrue (is_symbol name)
+  pub claimable : IsClaimable h t
 
-  pub AreSpelled : Forms → Type 0
-  AreSpelled end = ⊤
-  AreSpelled (dotted f) = IsSpelled f
-  AreSpelled (next f fs) = IsSpelled f × AreSpelled fs
-
--- the event's name is such a symbol, and its variables are, which are none of the constants T, F and NIL
-abbrev pub IsSpelledEvent : Event → Type 0
-IsSpelledEvent BootStrap = ⊤
-IsSpelledEvent (Lemma name term) = IsTrue (is_symbol name) × VariablesAre IsVariable term
-IsSpelledEvent Other = ⊤
+-- so it is of an event that is a lemma
+abbrev pub IsSpelledEvent : History → Event → Type 0
+IsSpelledEvent h (ProveLemma name classes t hints) = IsSpelledLemma h name t
+IsSpelledEvent h BootStrap = ⊤
+IsSpelledEvent h (AddShell shell) = ⊤
+IsSpelledEvent h (Dcl name formals) = ⊤
+IsSpelledEvent h (Defn name formals body measures) = ⊤
+IsSpelledEvent h (AddAxiom name classes t) = ⊤
+IsSpelledEvent h (Toggle name old disabled) = ⊤
+IsSpelledEvent h (Undo name) = ⊤
+IsSpelledEvent h Skipped = ⊤

@@ -1,59 +1,100 @@
 -- One step of a run: a form, its report, and the history after it.
-use Rattle.std.specs.Prelude.{◌≡◌, ◌&&◌, ℕ, Bool, true, false, not, List, [], ◌∷◌, ◌++◌, length, Option, Some, None, nat_le, nat_lt, if◌then◌else◌}
-use Rattle.nq_logic.specs.Histories.{History}
-use Rattle.nq_logic.specs.Histories as logic
-use Rattle.nq_logic.specs.Names.{is_in_use}
+use Rattle.std.specs.Prelude.{◌≡◌, ◌⊎◌, Bool, true, false, List, [], ◌∷◌, Option, Some, None, codes, if◌then◌else◌}
+use Rattle.nq_logic.specs.Terms.{Name, Term}
+use Rattle.nq_logic.specs.Histories.{History, RuleClass}
 use Rattle.nq_form.specs.Form.{Form, Forms, end, dotted, next}
-use Rattle.nq_comment.specs.Reports.{Answer, Accepted, Proved, Refused, Taut, Report}
-use Rattle.nq_comment.specs.ReportViews.{not_yet_words}
+use Rattle.nq_events.specs.Events.{Event, BootStrap, AddShell, Dcl, Defn, AddAxiom, ProveLemma, Toggle, Undo, Skipped as PassedOver}
+use Rattle.nq_events.specs.Refusals.{Refusal, NameInUse, code_of, words_of}
+use Rattle.nq_events.specs.Reading.{event_refusal, event_of}
+use Rattle.nq_events.specs.OwnRefusals.{in_use_refusal, room_refusal}
+use Rattle.nq_events.specs.Effects.{history_after}
+use Rattle.nq_quick.specs.Tautologies.{IsSmallTautology}
+use Rattle.nq_comment.specs.Reports.{Answer, Accepted, Undone, Skipped, Proved, Refused, Taut, Report}
 use Rattle.nq_comment.specs.Text.{shown_word}
-use Rattle.nq_run.specs.Events.{Event, BootStrap, Lemma, Other, event_of}
 use Rattle.nq_run.specs.Headers.{name_of, word_of}
 
--- an event of this name can be added: the name is short and not in use, and there is room
-abbrev pub is_free : History → List ℕ → Bool
-is_free history name = nat_le (length name) 240 && (nat_lt (length history) 10000 && not (is_in_use name history))
+-- the first of two answers that there is
+abbrev pub first_answer : Option Answer → Option Answer → Option Answer
+first_answer (Some answer) later = Some answer
+first_answer None later = later
 
--- for now, the events that are built: BOOT-STRAP, and a lemma that can be added
-abbrev pub is_built : History → Event → Bool
-is_built old BootStrap = true
-is_built old (Lemma name term) = is_free old name
-is_built old Other = false
+abbrev pub refusal_answer : Refusal → Answer
+refusal_answer refusal = Refused (code_of refusal) (words_of refusal)
 
--- For now, the refusal of a form of no kind that is built: with its word.
+-- a refusal as an answer
+abbrev pub refused : Option Refusal → Option Answer
+refused (Some refusal) = Some (refusal_answer refusal)
+refused None = None
+
+-- For now, the answer to a form that asks for what isn't built: 9, with its word.
 abbrev pub not_yet : Form → Answer
-not_yet form = Refused 9 (not_yet_words (shown_word (word_of form)))
+not_yet form = Refused 9 (codes "NotYet" ∷ shown_word (word_of form) ∷ [])
+
+-- for now, to a lemma with rule classes, in the place of the refusals of their shapes
+abbrev pub classes_answer : Form → List RuleClass → Option Answer
+classes_answer form [] = None
+classes_answer form (class ∷ classes) = Some (not_yet form)
+
+-- why a lemma that was read isn't tried: 32, for now 9, and 33
+abbrev pub lemma_answer : History → Form → Name → List RuleClass → Option Answer
+lemma_answer h form name classes =
+    first_answer (refused (in_use_refusal NameInUse h name)) (first_answer (classes_answer form classes) (refused (room_refusal h)))
+
+-- why an event that was read isn't taken
+abbrev pub untaken : History → Form → Event → Option Answer
+untaken h form BootStrap = None
+untaken h form (ProveLemma name classes t hints) = lemma_answer h form name classes
+untaken h form PassedOver = None
+-- these are not built yet
+untaken h form (AddShell shell) = Some (not_yet form)
+untaken h form (Dcl name formals) = Some (not_yet form)
+untaken h form (Defn name formals body measures) = Some (not_yet form)
+untaken h form (AddAxiom name classes t) = Some (not_yet form)
+untaken h form (Toggle name old disabled) = Some (not_yet form)
+untaken h form (Undo name) = Some (not_yet form)
 
 -- the first refusal that applies to a form
 abbrev pub refusal_of : History → Form → Option Answer
-refusal_of old form = if is_built old (event_of form) then None else Some (not_yet form)
+refusal_of h form = first_answer (refused (event_refusal h form)) (untaken h form (event_of h form))
 
--- the answers that an event may get in this history where no refusal applies
-abbrev pub IsOutcome : History → Event → Answer → Type 0
-IsOutcome old BootStrap answer = answer ≡ Accepted
-IsOutcome old (Lemma name term) answer = answer ≡ Proved Taut
-IsOutcome old Other answer = ⊥
+-- A lemma is proved where it is a small tautology. For now the prover knows no other way.
+abbrev pub IsTried : Form → Term → Answer → Type 0
+IsTried form t answer = (IsSmallTautology t × (answer ≡ Proved Taut)) ⊎ ((IsSmallTautology t → ⊥) × (answer ≡ not_yet form))
 
-abbrev pub AnswersUnless : Option Answer → History → Event → Answer → Type 0
-AnswersUnless (Some refusal) old event answer = answer ≡ refusal
-AnswersUnless None old event answer = IsOutcome old event answer
+-- the answers that an event may get where no refusal applies
+abbrev pub IsOutcome : Form → Event → Answer → Type 0
+IsOutcome form BootStrap answer = answer ≡ Accepted
+IsOutcome form (ProveLemma name classes t hints) answer = IsTried form t answer
+IsOutcome form PassedOver answer = answer ≡ Skipped
+IsOutcome form (AddShell shell) answer = ⊥
+IsOutcome form (Dcl name formals) answer = ⊥
+IsOutcome form (Defn name formals body measures) answer = ⊥
+IsOutcome form (AddAxiom name classes t) answer = ⊥
+IsOutcome form (Toggle name old disabled) answer = ⊥
+IsOutcome form (Undo name) answer = ⊥
+
+abbrev pub AnswersUnless : Option Answer → Form → Event → Answer → Type 0
+AnswersUnless (Some refusal) form event answer = answer ≡ refusal
+AnswersUnless None form event answer = IsOutcome form event answer
 
 -- the answers that a form may get: a refusal exactly where one applies
 abbrev pub Answers : History → Form → Answer → Type 0
-Answers old form answer = AnswersUnless (refusal_of old form) old (event_of form) answer
+Answers h form answer = AnswersUnless (refusal_of h form) form (event_of h form) answer
+
+-- whether an event of this answer was taken: accepted, proved or undone
+abbrev pub is_taken : Answer → Bool
+is_taken Accepted = true
+is_taken (Undone count) = true
+is_taken (Proved quick) = true
+is_taken Skipped = false
+is_taken (Refused code words) = false
 
 -- the history after an event and its answer
 abbrev pub after_event : History → Event → Answer → History
-after_event old BootStrap Accepted = []
-after_event old BootStrap (Proved quick) = old
-after_event old BootStrap (Refused code words) = old
-after_event old (Lemma name term) Accepted = old
-after_event old (Lemma name term) (Proved quick) = old ++ logic.Lemma name [] term ∷ []
-after_event old (Lemma name term) (Refused code words) = old
-after_event old Other answer = old
+after_event h event answer = if is_taken answer then history_after h event None else h
 
 abbrev pub after : History → Form → Answer → History
-after old form answer = after_event old (event_of form) answer
+after h form answer = after_event h (event_of h form) answer
 
 -- one form, its report, and the history after it
 pub record Step (old : History) (form : Form) (report : Report) (new : History) : Type 0 where

@@ -1,14 +1,23 @@
 //! The run of an event file: its forms are read, answered and reported one after another.
 //!
-//! The contract that the layer above uses is that of `run_events`: the reports written are a run
-//! over the forms of the file, and each lemma reported as proved is derivable.
+//! The contract that the layer above uses is that of `run_events`: the reports written are a run over the forms of the file,
+//! each lemma reported as proved is derivable in the history before it, and the log that is written, where one is asked for,
+//! is a right log whose claims are those of the events that were accepted, proved or undone.
 #![tactic(auto)]
 
-mod event;
+// the header of a report
 mod form;
 mod header;
-mod outputs;
-mod runs;
+
+// one step: a form is answered in a history
+mod answers;
+mod proving;
 mod session;
+
+// what is written
+mod outputs;
+
+// the loop over the forms
+mod runs;
 
 pub use runs::{Ended, RunFault, run_events};

@@ -13,9 +13,8 @@ ghost use Rattle.nq_block.specs.OpenLogs.{header_text};
 ghost use Rattle.nq_run.specs.HistoryView.{history_of, SessionStands};
 ghost use Rattle.nq_run.specs.Outcome.{Begun, FilledLog, Finished, Full, GrowsWithin, Halted, Interrupted, IsStop, Logs, LogsWithin, Stopped, Turned, TurnStopped, WasRun, held_in, last_text, status_of};
 ghost use Rattle.nq_run.specs.RunFaults.{fault_status};
-ghost use Rattle.nq_run.specs.Spelled.{IsSpelled};
+ghost use Rattle.nq_spelling.specs.Spelled.{IsSpelled};
 
-use crate::event::event_of;
 use crate::header::{name_of, word_of};
 use crate::outputs::{LogSoFar, write_text};
 use crate::session::Session;
@@ -282,10 +281,11 @@ fn turn<O: Sink, L: Sink>(
     ensures no_read { result ≡ Err RunFault.Read → ⊥ }
     ensures alone { progress.log.logging ≡ false → log.new ≡ log.old }
 {
-    let taken = match session.take(alloc, &event_of(form), progress.log.logging, steps) {
+    let taken = match session.take(alloc, form, progress.log.logging, steps) {
         Ok(taken) => taken,
         Err(_) => return Err(RunFault::Memory),
     };
+    let kind = taken.answer.kind();
     let report = FormReport {
         word: word_of(form),
         name: name_of(form),
@@ -303,7 +303,7 @@ fn turn<O: Sink, L: Sink>(
     Ok(Advanced {
         session: taken.session,
         progress: Progress {
-            counts: progress.counts.with(taken.answer.kind()),
+            counts: progress.counts.with(kind),
             log,
         },
     })

@@ -1,37 +1,31 @@
 // The events that stand.
-ghost use Rattle.std.specs.Prelude.{◌≡◌, ◌++◌, ◌∷◌, IfOk, IsTrue, [], true};
-ghost use Rattle.nq_logtext.specs.Symbols.{is_symbol};
-ghost use Rattle.nq_logic.specs.Histories.{Lemma};
-ghost use Rattle.nq_bank.specs.Content.{Grows, IsIdOf, IsNamed, Stands, term_at, text_at};
-ghost use Rattle.nq_history.specs.Events.{events_at, HistoryStands};
-ghost use Rattle.nq_history.specs.Marking.{AreMarked};
-ghost use Rattle.nq_kernel.specs.Growing.{LogGrows};
-ghost use Rattle.nq_kernel.specs.Over.{IsVariable, RulesAreOver};
-ghost use Rattle.nq_block.specs.Blocks.{IsBlock};
-ghost use Rattle.nq_block.specs.Closings.{CanClose, ClosingStands, claim_at};
-ghost use Rattle.nq_block.specs.Names.{HasSymbols};
-ghost use Rattle.nq_run.specs.Events as model;
-ghost use Rattle.nq_run.specs.Events.{self_implication};
-ghost use Rattle.nq_run.specs.EventViews.{event_view};
+ghost use Rattle.std.specs.Prelude.{◌≡◌, IfOk, [], map};
+ghost use Rattle.std.specs.Option.{option_map};
+ghost use Rattle.nq_form.specs.Form.{Form};
+ghost use Rattle.nq_sexp.specs.Tree.{tree};
+ghost use Rattle.nq_bank.specs.Content.{IsNamed, Stands, term_at, text_at};
+ghost use Rattle.nq_history.specs.Events.{class_of};
+ghost use Rattle.nq_block.specs.Closings.{IsFree};
+ghost use Rattle.nq_comment.specs.ReportViews.{answer_of};
+ghost use Rattle.nq_events.specs.Events as model;
+ghost use Rattle.nq_event.specs.EventsAt.{EventStands, event_at};
+ghost use Rattle.nq_spelling.specs.Spelled.{IsSpelled};
 ghost use Rattle.nq_run.specs.HistoryView.{history_of, SessionStands};
-ghost use Rattle.nq_run.specs.Outcome.{AreBlocks};
-ghost use Rattle.nq_run.specs.Sessions.{IsMarkBefore, Shows, Takes};
-ghost use Rattle.nq_run.specs.Spelled.{IsSpelledEvent};
-ghost use Rattle.nq_run.specs.Steps.{is_free};
-ghost use Rattle.nq_run.specs.Taking.{IsTaken, claims_taken, taken};
+ghost use Rattle.nq_run.specs.Sessions.{IsMarkBefore, IsNotYet, Takes, TakesEvent, TriesLemma};
+ghost use Rattle.nq_run.specs.Spelled.{IsSpelledEvent, IsSpelledLemma};
+ghost use Rattle.nq_run.specs.Steps.{lemma_answer};
 
-use crate::event::FormEvent;
-use nq_bank::{Bank, BankFault, Mark, Sym, TermId, ground, ground_name};
-use nq_block::{Closing, write_block};
-use nq_comment::FormAnswer;
-use nq_history::{EVENT_LIMIT, Entry, EntryKind, History, PushFault};
-use nq_kernel::{Log, Work};
+use crate::answers::{name_in_use, not_yet, told, too_many_events};
+use crate::proving::{block_of, try_goal, with_lemma};
+use nq_bank::{Bank, Mark, Sym, TermId};
+use nq_block::Closing;
+use nq_comment::{FormAnswer, Quick};
+use nq_event::{Event, parse_event};
+use nq_history::{Class, EVENT_LIMIT, History};
+use nq_kernel::Log;
 use nq_logtext::Text;
-use nq_quick::quick;
+use nq_sexp::Sexp;
 use std::alloc::{AllocError, Global};
-
-/// The most bytes of an event's name.
-const LONGEST_NAME: usize = 240;
 
 /// The history of a run, and the terms that its events speak of.
 #[derive(Drop)]
@@ -40,21 +34,12 @@ pub(crate) struct Session {
     history: History,
 }
 
-/// What an event was answered: the history after it, and the text of its block in the log.
+/// What a form was answered: the history after it, and the text of its block in the log.
 #[derive(Drop)]
 pub(crate) struct Taken {
     pub(crate) session: Session,
     pub(crate) answer: FormAnswer,
     pub(crate) block: Text,
-}
-
-/// A term that is proved: by the line of this number.
-#[derive(Drop)]
-struct Proof {
-    bank: Bank,
-    log: Log,
-    goal: TermId,
-    line: u64,
 }
 
 impl Session {
@@ -68,60 +53,97 @@ impl Session {
         Ok(Session { bank, history })
     }
 
-    /// Answers an event, and takes it where it is accepted. With `logging` it gives the block of what the event claims.
+    /// Answers a form, and takes its event where it is accepted or proved. With `logging` it gives the block of what the
+    /// event claims.
     pub(crate) fn take(
         self,
         alloc: Global,
-        event: &FormEvent<'_>,
+        form: &Sexp<'_>,
         logging: bool,
         steps: u64,
     ) -> Result<Taken, AllocError>
         requires stands { SessionStands self }
-        requires spelled { IsSpelledEvent (event_view event.now) }
-        ensures answer { IfOk result (λ r. IsTaken (history_of self) (event_view event.now) r.answer) }
-        ensures after { IfOk result (λ r. history_of r.session ≡ taken (history_of self) (event_view event.now) r.answer) }
-        ensures stands { IfOk result (λ r. SessionStands r.session) }
-        ensures block { IfOk result (λ r. logging ≡ true → AreBlocks (history_of self) (claims_taken (event_view event.now) r.answer) r.block) }
+        requires spelled { IsSpelled (tree form.now) }
+        ensures { IfOk result (Takes (history_of self) (tree form.now) logging) }
     {
-        self.answer(alloc, event, logging, steps)
-    }
-
-    /// The answer to an event.
-    fn answer(
-        self,
-        alloc: Global,
-        event: &FormEvent<'_>,
-        logging: bool,
-        steps: u64,
-    ) -> Result<Taken, AllocError>
-        requires stands { SessionStands self }
-        requires spelled { IsSpelledEvent (event_view event.now) }
-        ensures { IfOk result (Takes self (event_view event.now) logging) }
-    {
-        match event {
-            FormEvent::BootStrap => self.boot_strap(alloc, logging),
-            FormEvent::Lemma(name, variable) => {
-                self.prove_lemma(alloc, name, variable, logging, steps)
+        let Session { mut bank, history } = self;
+        let mark = bank.mark();
+        match parse_event(&mut bank, &history, form) {
+            Ok(event) => {
+                let session = Session { bank, history };
+                session.take_event(alloc, mark, form, &event, logging, steps)
             }
-            FormEvent::Other => Ok(self.unchanged(alloc)),
+            Err(fault) => {
+                let answer = told(fault)?;
+                let session = Session { bank, history };
+                Ok(session.untaken(alloc, answer))
+            }
         }
     }
 
-    /// The session as it is, for an event that is not taken.
-    fn unchanged(self, alloc: Global) -> Taken
-        ensures { result ≡ record { session = self; answer = FormAnswer.NotYet; block = [] } }
+    /// Takes the event of a form that isn't refused. The mark is the one from before it was read.
+    fn take_event(
+        self,
+        alloc: Global,
+        mark: Mark,
+        form: &Sexp<'_>,
+        event: &Event,
+        logging: bool,
+        steps: u64,
+    ) -> Result<Taken, AllocError>
+        requires stands { SessionStands self }
+        requires mark { IsMarkBefore self.bank self.history mark }
+        requires event { EventStands self.bank event.now }
+        requires spelled { IsSpelledEvent (history_of self) (event_at self.bank event.now) }
+        ensures { IfOk result (TakesEvent (history_of self) (tree form.now) (event_at self.bank event.now) logging) }
+    {
+        match event {
+            Event::BootStrap => self.boot_strap(alloc, logging),
+            Event::ProveLemma(name, classes, goal, _) => {
+                self.prove_lemma(
+                    alloc,
+                    mark,
+                    form,
+                    *name,
+                    classes.as_slice(),
+                    *goal,
+                    logging,
+                    steps,
+                )
+            }
+            Event::Skipped => Ok(self.untaken(alloc, FormAnswer::Skipped)),
+            Event::AddShell(_) => self.not_yet(alloc, form),
+            Event::Dcl(_, _) => self.not_yet(alloc, form),
+            Event::Defn(_, _, _, _) => self.not_yet(alloc, form),
+            Event::AddAxiom(_, _, _) => self.not_yet(alloc, form),
+            Event::Toggle(_, _, _) => self.not_yet(alloc, form),
+            Event::Undo(_) => self.not_yet(alloc, form),
+        }
+    }
+
+    /// The session as it is, for a form whose event is not taken.
+    fn untaken(self, alloc: Global, answer: FormAnswer) -> Taken
+        ensures { result ≡ record { session = self; answer = answer; block = [] } }
     {
         Taken {
             session: self,
-            answer: FormAnswer::NotYet,
+            answer,
             block: Text::new(alloc),
         }
+    }
+
+    /// The session as it is, for a form that asks for what isn't built yet.
+    fn not_yet(self, alloc: Global, form: &Sexp<'_>) -> Result<Taken, AllocError>
+        ensures { IfOk result (IsNotYet self (tree form.now)) }
+    {
+        let answer = not_yet(alloc, form)?;
+        Ok(self.untaken(alloc, answer))
     }
 
     /// The ground history again.
     fn boot_strap(self, alloc: Global, logging: bool) -> Result<Taken, AllocError>
         requires { SessionStands self }
-        ensures { IfOk result (Takes self model.BootStrap logging) }
+        ensures { (form : Form) → IfOk result (TakesEvent (history_of self) form model.BootStrap logging) }
     {
         let log = Log::new(alloc);
         let closing = Closing::BootStrap;
@@ -134,144 +156,100 @@ impl Session {
         })
     }
 
-    /// The lemma that a variable implies itself is proved and added, where its name is free.
+    /// Why a lemma isn't tried: its name is in use, it has rule classes, which aren't built yet, or there is no room.
+    fn lemma_answer(
+        &self,
+        alloc: Global,
+        form: &Sexp<'_>,
+        name: Sym,
+        classes: &[Class],
+    ) -> Result<Option<FormAnswer>, AllocError>
+        requires stands { SessionStands self.now }
+        requires name { IsNamed self.now.bank name }
+        ensures { IfOk result (λ answer. option_map answer_of answer
+            ≡ lemma_answer (history_of self.now) (tree form.now) (text_at self.now.bank name) (map class_of classes.now)) }
+    {
+        if self.history.in_use(&self.bank, name) {
+            return Ok(Some(name_in_use(alloc, self.bank.text(name))?));
+        }
+        if !classes.is_empty() {
+            return Ok(Some(not_yet(alloc, form)?));
+        }
+        if self.history.past_ground().len() >= EVENT_LIMIT {
+            return Ok(Some(too_many_events(alloc)?));
+        }
+        Ok(None)
+    }
+
+    /// The lemma is tried, unless something keeps it from that, and added where it is proved.
     fn prove_lemma(
         self,
         alloc: Global,
-        name: &[u8],
-        variable: &[u8],
+        mark: Mark,
+        form: &Sexp<'_>,
+        name: Sym,
+        classes: &[Class],
+        goal: TermId,
         logging: bool,
         steps: u64,
     ) -> Result<Taken, AllocError>
         requires stands { SessionStands self }
-        requires spelled { IsSpelledEvent (model.Lemma name.now (self_implication variable.now)) }
-        ensures { IfOk result (Takes self (model.Lemma name.now (self_implication variable.now)) logging) }
+        requires mark { IsMarkBefore self.bank self.history mark }
+        requires name { IsNamed self.bank name }
+        requires goal { Stands self.bank goal }
+        requires spelled { IsSpelledLemma (history_of self) (text_at self.bank name) (term_at self.bank goal) }
+        ensures { (hints : model.Hints) → IfOk result (TakesEvent (history_of self) (tree form.now)
+            (model.ProveLemma (text_at self.bank name) (map class_of classes.now) (term_at self.bank goal) hints) logging) }
     {
-        let Session { mut bank, history } = self;
-        let mark = bank.mark();
-        let name = bank.name(name)?;
-        if !is_free(&bank, &history, name) {
-            let session = Session { bank, history };
-            return Ok(session.unchanged(alloc));
+        match self.lemma_answer(alloc, form, name, classes)? {
+            Some(answer) => Ok(self.untaken(alloc, answer)),
+            None => self.try_lemma(alloc, mark, form, name, goal, logging, steps),
         }
-        let proof = prove(bank, &history, variable, steps)?;
-        let closing = Closing::Lemma(name, proof.goal, proof.line);
-        let block = block_of(alloc, logging, &proof.bank, &history, &proof.log, &closing)?;
-        let session = with_lemma(proof.bank, history, mark, name, proof.goal)?;
-        Ok(Taken {
-            session,
-            answer: FormAnswer::Proved,
-            block,
-        })
     }
-}
 
-/// Can an event of this name be added: is the name short and not in use, and is there room?
-fn is_free(bank: &Bank, history: &History, name: Sym) -> bool
-    requires history { HistoryStands bank.now history.now }
-    requires name { IsNamed bank.now name }
-    ensures { result ≡ is_free (events_at bank.now history.now) (text_at bank.now name) }
-{
-    if bank.text(name).len() > LONGEST_NAME {
-        return false;
-    }
-    if history.past_ground().len() >= EVENT_LIMIT {
-        return false;
-    }
-    !history.in_use(bank, name)
-}
-
-/// The term that a variable implies itself.
-fn self_implication(bank: &mut Bank, variable: &[u8]) -> Result<TermId, AllocError>
-    ensures term { IfOk result (λ t. IsIdOf bank.new t (self_implication variable.now)) }
-    ensures grows { IfOk result (λ t. Grows bank.old bank.new) }
-{
-    let s = bank.name(variable)?;
-    let v = bank.var(s)?;
-    match bank.app(ground_name(bank, ground::IMPLIES), &[v, v]) {
-        Ok(t) => Ok(t),
-        Err(BankFault::Memory) => Err(AllocError),
-        Err(BankFault::Deep) => unreachable!(),
-    }
-}
-
-/// Proves that a variable implies itself, as a small tautology.
-fn prove(
-    mut bank: Bank,
-    history: &History,
-    variable: &[u8],
-    steps: u64,
-) -> Result<Proof, AllocError>
-    requires history { HistoryStands bank history.now }
-    requires variable { IsVariable variable.now }
-    ensures { IfOk result (Shows bank history.now variable.now) }
-{
-    let alloc = bank.alloc();
-    let goal = self_implication(&mut bank, variable)?;
-    let mut work = Work::new(bank, Log::new(alloc), steps);
-    let answer = quick(&mut work, history, goal)?;
-    match answer {
-        Some(found) => Ok(Proof {
-            bank: work.bank,
-            log: work.log,
-            goal,
-            line: found.1,
-        }),
-        None => unreachable!(),
-    }
-}
-
-/// The block of what an event claims; no text where no log is written.
-fn block_of(
-    alloc: Global,
-    logging: bool,
-    bank: &Bank,
-    history: &History,
-    log: &Log,
-    closing: &Closing,
-) -> Result<Text, AllocError>
-    requires legal { LogGrows bank.now history.now [] log.now }
-    requires over { RulesAreOver IsVariable bank.now history.now 0 log.now }
-    requires names { HasSymbols (events_at bank.now history.now) }
-    requires stands { ClosingStands bank.now closing.now }
-    requires closing { CanClose bank.now history.now log.now closing.now }
-    ensures { IfOk result (λ text. logging ≡ true → IsBlock (events_at bank.now history.now) (claim_at bank.now closing.now) text) }
-{
-    let mut text = Text::new(alloc);
-    if logging {
-        write_block(bank, history, log, closing, &mut text)?;
-    }
-    Ok(text)
-}
-
-/// The session with a lemma more, whose event began at this mark.
-fn with_lemma(
-    bank: Bank,
-    mut history: History,
-    mark: Mark,
-    name: Sym,
-    goal: TermId,
-) -> Result<Session, AllocError>
-    requires history { HistoryStands bank history }
-    requires marked { AreMarked bank history }
-    requires mark { IsMarkBefore bank history mark }
-    requires names { HasSymbols (events_at bank history) }
-    requires name { IsNamed bank name }
-    requires spelled { IsTrue (is_symbol (text_at bank name)) }
-    requires goal { Stands bank goal }
-    requires free { is_free (events_at bank history) (text_at bank name) ≡ true }
-    ensures after { IfOk result (λ s. history_of s ≡ events_at bank history ++ Lemma (text_at bank name) [] (term_at bank goal) ∷ []) }
-    ensures stands { IfOk result SessionStands }
-{
-    let entry = Entry {
-        name,
-        kind: EntryKind::Lemma(Vec::new(bank.alloc()), goal),
-        mark,
-    };
-    match history.push(&bank, entry) {
-        Ok(()) => Ok(Session { bank, history }),
-        Err(PushFault::Memory) => Err(AllocError),
-        Err(PushFault::NameInUse) => unreachable!(),
-        Err(PushFault::TooManyEvents) => unreachable!(),
+    /// The lemma is proved and added, or answered as what isn't built yet.
+    fn try_lemma(
+        self,
+        alloc: Global,
+        mark: Mark,
+        form: &Sexp<'_>,
+        name: Sym,
+        goal: TermId,
+        logging: bool,
+        steps: u64,
+    ) -> Result<Taken, AllocError>
+        requires stands { SessionStands self }
+        requires mark { IsMarkBefore self.bank self.history mark }
+        requires name { IsNamed self.bank name }
+        requires goal { Stands self.bank goal }
+        requires spelled { IsSpelledLemma (history_of self) (text_at self.bank name) (term_at self.bank goal) }
+        requires free { IsFree (history_of self) (text_at self.bank name) }
+        ensures { IfOk result (TriesLemma (history_of self) (tree form.now) (text_at self.bank name) (term_at self.bank goal) logging) }
+    {
+        let Session { bank, history } = self;
+        let tried = try_goal(alloc, bank, &history, goal, steps)?;
+        match tried.line {
+            Some(line) => {
+                let closing = Closing::Lemma(name, goal, line);
+                let block = block_of(alloc, logging, &tried.bank, &history, &tried.log, &closing)?;
+                let history = with_lemma(&tried.bank, history, mark, name, goal)?;
+                let session = Session {
+                    bank: tried.bank,
+                    history,
+                };
+                Ok(Taken {
+                    session,
+                    answer: FormAnswer::Proved(Quick::Taut),
+                    block,
+                })
+            }
+            None => {
+                let session = Session {
+                    bank: tried.bank,
+                    history,
+                };
+                session.not_yet(alloc, form)
+            }
+        }
     }
 }

@@ -10,6 +10,7 @@ ghost use Rattle.std.specs.Io.KnownBytes.{Appends};
 ghost use Rattle.nq_io.specs.Faults.{Rose};
 ghost use Rattle.nq_run.specs.Outcome.{GrowsWithin, held_in};
 ghost use Rattle.nqthm.specs.Commands.{HasChecked, HasRun, check_status};
+ghost use Rattle.nqthm.specs.Accepted.{WrittenLogs};
 ghost use Rattle.nqthm.specs.Words.{command_of};
 
 mod words;
@@ -47,8 +48,8 @@ const NO_MEMORY: u8 = 6;
 /// - 7: the file has more than 2^25 bytes; a log would reach 2^62 bytes, or has more.
 ///
 /// In each outcome of `run` and `log` a lemma reported as proved is derivable in the history before it, and the log that was
-/// written to its end is right. In each outcome of `check` a claim that was written holds in the history of the claims before
-/// it.
+/// written to its end is right, so that `check` accepts it ([`written_logs`]). In each outcome of `check` a claim that was
+/// written holds in the history of the claims before it.
 #[tactic(auto, using(crate::proofs::Endings::untouched_checked))]
 pub fn nqthm<S: Source, O: Sink, E: Sink>(
     alloc: Global,
@@ -92,6 +93,12 @@ pub fn nqthm<S: Source, O: Sink, E: Sink>(
         Err(WordsFault::Memory) => NO_MEMORY,
     }
 }
+
+/// What `log` has written at status 0 or 1, `check` accepts: it ends with status 0 there, or with one that says nothing of
+/// the text, as where a stream failed.
+pub fn written_logs()
+    ensures { WrittenLogs }
+{}
 
 /// Runs an event file, and gives the status.
 fn run_status<S: Source, O: Sink, L: Sink>(

@@ -1,4 +1,7 @@
 // The whole program over words, sources and sinks in memory.
+// logs, written and checked
+mod logs;
+
 use nq_io::{MemSink, MemSource};
 use nqthm::nqthm;
 use std::alloc::{AllocError, Global};
@@ -82,27 +85,27 @@ fn each_form_has_its_report(rt: HostRuntime) -> Result<(), Fail> {
         (
             b"(boot-strap) (boot-strap thm) (boot-strap other)",
             1,
-            b"1. BOOT-STRAP\n   Accepted.\n2. BOOT-STRAP\n   Accepted.\n3. BOOT-STRAP\n   Refused 9 NotYet BOOT-STRAP.\nForms 3, accepted 2, refused 1, failed 0, skipped 0.\n",
+            b"1. BOOT-STRAP\n   Accepted.\n2. BOOT-STRAP\n   Accepted.\n3. BOOT-STRAP\n   Refused 21 BadShape form.\nForms 3, accepted 2, refused 1, failed 0, skipped 0.\n",
         ),
         (
             b"X ((A)) () (SETQ A NIL)",
             1,
-            b"1. ?\n   Refused 9 NotYet ?.\n2. ?\n   Refused 9 NotYet ?.\n3. ?\n   Refused 9 NotYet ?.\n4. SETQ\n   Refused 9 NotYet SETQ.\nForms 4, accepted 0, refused 4, failed 0, skipped 0.\n",
+            b"1. ?\n   Refused 20 NotAnEvent.\n2. ?\n   Refused 20 NotAnEvent.\n3. ?\n   Refused 20 NotAnEvent.\n4. SETQ\n   Skipped.\nForms 4, accepted 0, refused 3, failed 0, skipped 1.\n",
         ),
         (
             b"(PROVE-LEMMA L NIL (IMPLIES P P)) (PROVE-LEMMA L NIL (IMPLIES Q Q)) (BOOT-STRAP) (PROVE-LEMMA L () (IMPLIES P P))",
             1,
-            b"1. PROVE-LEMMA L\n   By TAUT.\n   Proved.\n2. PROVE-LEMMA L\n   Refused 9 NotYet PROVE-LEMMA.\n3. BOOT-STRAP\n   Accepted.\n4. PROVE-LEMMA L\n   By TAUT.\n   Proved.\nForms 4, accepted 3, refused 1, failed 0, skipped 0.\n",
+            b"1. PROVE-LEMMA L\n   By TAUT.\n   Proved.\n2. PROVE-LEMMA L\n   Refused 32 NameInUse L.\n3. BOOT-STRAP\n   Accepted.\n4. PROVE-LEMMA L\n   By TAUT.\n   Proved.\nForms 4, accepted 3, refused 1, failed 0, skipped 0.\n",
         ),
         (
             b"(PROVE-LEMMA A NIL (IMPLIES P Q)) (PROVE-LEMMA B NIL (IMPLIES T T))",
             1,
-            b"1. PROVE-LEMMA A\n   Refused 9 NotYet PROVE-LEMMA.\n2. PROVE-LEMMA B\n   Refused 9 NotYet PROVE-LEMMA.\nForms 2, accepted 0, refused 2, failed 0, skipped 0.\n",
+            b"1. PROVE-LEMMA A\n   Refused 9 NotYet PROVE-LEMMA.\n2. PROVE-LEMMA B\n   By TAUT.\n   Proved.\nForms 2, accepted 1, refused 1, failed 0, skipped 0.\n",
         ),
         (
             b"(UNDO-BACK-THROUGH E) (TOGGLE K G T) (DCL (E))",
             1,
-            b"1. UNDO-BACK-THROUGH E\n   Refused 9 NotYet UNDO-BACK-THROUGH.\n2. TOGGLE K\n   Refused 9 NotYet TOGGLE.\n3. DCL\n   Refused 9 NotYet DCL.\nForms 3, accepted 0, refused 3, failed 0, skipped 0.\n",
+            b"1. UNDO-BACK-THROUGH E\n   Refused 9 NotYet UNDO-BACK-THROUGH.\n2. TOGGLE K\n   Refused 9 NotYet TOGGLE.\n3. DCL\n   Refused 21 BadShape form.\nForms 3, accepted 0, refused 3, failed 0, skipped 0.\n",
         ),
     ] {
         let answered = answer_to(rt.alloc(), Given::run(text))?;
@@ -114,25 +117,119 @@ fn each_form_has_its_report(rt: HostRuntime) -> Result<(), Fail> {
 
 #[test]
 fn a_form_of_another_kind_has_its_header(rt: HostRuntime) -> Result<(), Fail> {
-    for (text, header) in [
+    for (text, header, status) in [
         (
             b"-0012".as_slice(),
-            b"1. ?\n   Refused 9 NotYet ?.\n".as_slice(),
+            b"1. ?\n   Refused 20 NotAnEvent.\n".as_slice(),
+            1,
         ),
-        (b"\"A\"", b"1. ?\n   Refused 9 NotYet ?.\n"),
-        (b"'X", b"1. ?\n   Refused 9 NotYet ?.\n"),
-        (b"(7 A)", b"1. ?\n   Refused 9 NotYet ?.\n"),
-        (b"(SETQ . A)", b"1. SETQ\n   Refused 9 NotYet SETQ.\n"),
-        (b"(DCL E . A)", b"1. DCL E\n   Refused 9 NotYet DCL.\n"),
-        (b"(DCL \"E\" A)", b"1. DCL\n   Refused 9 NotYet DCL.\n"),
+        (b"\"A\"", b"1. ?\n   Refused 20 NotAnEvent.\n", 1),
+        (b"'X", b"1. ?\n   Refused 20 NotAnEvent.\n", 1),
+        (b"(7 A)", b"1. ?\n   Refused 20 NotAnEvent.\n", 1),
+        (b"(FROB A)", b"1. FROB\n   Refused 20 NotAnEvent.\n", 1),
+        (b"(SETQ . A)", b"1. SETQ\n   Skipped.\n", 0),
+        (
+            b"(NOTE-LIB \"x\")",
+            b"1. NOTE-LIB\n   Refused 12 OutOfScope NOTE-LIB.\n",
+            1,
+        ),
+        (
+            b"(DCL E . A)",
+            b"1. DCL E\n   Refused 21 BadShape form.\n",
+            1,
+        ),
+        (
+            b"(DCL \"E\" (A))",
+            b"1. DCL\n   Refused 21 BadShape name.\n",
+            1,
+        ),
+        (b"(DCL E (A))", b"1. DCL E\n   Refused 9 NotYet DCL.\n", 1),
         (
             b"(BOOT-STRAP . NQTHM)",
-            b"1. BOOT-STRAP\n   Refused 9 NotYet BOOT-STRAP.\n",
+            b"1. BOOT-STRAP\n   Refused 21 BadShape form.\n",
+            1,
         ),
     ] {
         let answered = answer_to(rt.alloc(), Given::run(text))?;
         assert!(rt; answered.out.as_slice().starts_with(header));
-        assert_eq!(rt; answered.status, 1);
+        assert_eq!(rt; answered.status, status);
+    }
+    Ok(())
+}
+
+/// The pieces one after another.
+fn joined(alloc: Global, pieces: &[&[u8]]) -> Result<Vec<u8>, AllocError> {
+    let mut text = Vec::new(alloc);
+    for piece in pieces {
+        text.extend_from_slice(piece)?;
+    }
+    Ok(text)
+}
+
+#[test]
+fn a_lemma_has_its_first_refusal(rt: HostRuntime) -> Result<(), Fail> {
+    for (name, rest, answer) in [
+        (
+            b"A".as_slice(),
+            b"NIL (FOO X)".as_slice(),
+            b"Refused 10 UnknownFunction FOO.\n".as_slice(),
+        ),
+        (b"A", b"NIL (NOT P Q)", b"Refused 11 Arity NOT 2 1.\n"),
+        (
+            b"A",
+            b"NIL (EQUAL (EVAL$ T X A) X)",
+            b"Refused 12 OutOfScope EVAL$.\n",
+        ),
+        (
+            b"A",
+            b"((META F)) (IMPLIES P P)",
+            b"Refused 12 OutOfScope META.\n",
+        ),
+        (
+            b"A",
+            b"NIL (LET ((NIL P)) P)",
+            b"Refused 14 BadVariable NIL.\n",
+        ),
+        (
+            b"A",
+            b"(FROB) (IMPLIES P P)",
+            b"Refused 21 BadShape types.\n",
+        ),
+        (
+            b"A",
+            b"NIL (IMPLIES P P) ((GUESS T))",
+            b"Refused 22 BadHint GUESS.\n",
+        ),
+        (
+            b"PLUS",
+            b"(REWRITE) (IMPLIES P P)",
+            b"Refused 32 NameInUse PLUS.\n",
+        ),
+        (
+            b"A",
+            b"(REWRITE) (IMPLIES P P)",
+            b"Refused 9 NotYet PROVE-LEMMA.\n",
+        ),
+        (
+            b"A",
+            b"NIL (IMPLIES P Q)",
+            b"Refused 9 NotYet PROVE-LEMMA.\n",
+        ),
+        (
+            b"A",
+            b"NIL (OR P (NOT P)) ((DO-NOT-INDUCT T))",
+            b"By TAUT.\n   Proved.\n",
+        ),
+        (
+            b"A",
+            b"() (COND (P T) (T (IFF Q Q)))",
+            b"By TAUT.\n   Proved.\n",
+        ),
+    ] {
+        let text = joined(rt.alloc(), &[b"(PROVE-LEMMA ", name, b" ", rest, b")"])?;
+        let front = joined(rt.alloc(), &[b"1. PROVE-LEMMA ", name, b"\n   ", answer])?;
+        let answered = answer_to(rt.alloc(), Given::run(text.as_slice()))?;
+        assert!(rt; answered.out.as_slice().starts_with(front.as_slice()));
     }
     Ok(())
 }
@@ -218,7 +315,7 @@ fn there_is_room_for_ten_thousand_lemmas(rt: HostRuntime) -> Result<(), Fail> {
     assert_eq!(rt; answered.status, 1);
     assert!(rt;
         answered.out.as_slice().ends_with(
-            b"10000. PROVE-LEMMA L9999\n   By TAUT.\n   Proved.\n10001. PROVE-LEMMA L10000\n   Refused 9 NotYet PROVE-LEMMA.\nForms 10001, accepted 10000, refused 1, failed 0, skipped 0.\n"
+            b"10000. PROVE-LEMMA L9999\n   By TAUT.\n   Proved.\n10001. PROVE-LEMMA L10000\n   Refused 33 TooManyEvents.\nForms 10001, accepted 10000, refused 1, failed 0, skipped 0.\n"
         )
     );
     Ok(())
@@ -275,43 +372,6 @@ fn other_words_are_refused(rt: HostRuntime) -> Result<(), Fail> {
         assert_eq!(rt; answered.out.is_empty(), status != 0);
         let usage = if status == 2 { USAGE } else { "" };
         assert_eq!(rt; answered.side.as_slice(), usage.as_bytes());
-    }
-    Ok(())
-}
-
-#[test]
-fn a_log_has_its_first_and_last_line(rt: HostRuntime) -> Result<(), Fail> {
-    for text in [b"".as_slice(), b"; x"] {
-        let given = Given {
-            words: &["nqthm", "log"],
-            ..Given::run(text)
-        };
-        let answered = answer_to(rt.alloc(), given)?;
-        assert_eq!(rt; answered.status, 0);
-        assert_eq!(rt; answered.out.as_slice(), b"NQTHM-LOG 1\nEND\n".as_slice());
-        assert_eq!(rt; answered.side.as_slice(), NO_FORMS);
-    }
-    Ok(())
-}
-
-#[test]
-fn a_log_is_checked_line_by_line(rt: HostRuntime) -> Result<(), Fail> {
-    for (text, status, want) in [
-        (
-            b"NQTHM-LOG 1\nEND\n".as_slice(),
-            0,
-            b"Accepted, 0 claims.\n".as_slice(),
-        ),
-        (b"", 1, b"Refused, line 1: unexpected end.\n"),
-    ] {
-        let given = Given {
-            words: &["nqthm", "check"],
-            ..Given::run(text)
-        };
-        let answered = answer_to(rt.alloc(), given)?;
-        assert_eq!(rt; answered.status, status);
-        assert_eq!(rt; answered.out.as_slice(), want);
-        assert_eq!(rt; answered.side.as_slice(), b"".as_slice());
     }
     Ok(())
 }

@@ -13,5 +13,5 @@ returns-in-Some c =
     λ h.
     let f = text_at c.args.bank.now c.in-App.f in
     let named = c.in-App.ensures.head.0 in
-    let arity : arity_in (symbols_of (events_at c.args.bank.now c.args.history.now)) f ≡ Some c.in-Some.n = sym (c.arity.ensures c.args.bank.now c.is_sound.ensures c.requires.history named) ∙ c.in-Some.is in
+    let arity : arity_in (symbols_of (events_at c.args.bank.now c.args.history.now)) f ≡ Some c.in-Some.n = sym (c.arity.ensures.events c.args.bank.now c.is_sound.ensures c.requires.history named) ∙ c.in-Some.is in
     call_in c.args.bank.now c.args.history.now c.args.t f c.in-Some.n c.args-in-Some.result.now (c.in-App.ensures.head.1 ∙ ap (call f) (sym c.args-in-Some.ensures.parts)) arity (eqb-true _ _ h) c.args-in-Some.ensures.earlier c.requires.before

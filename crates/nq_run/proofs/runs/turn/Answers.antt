@@ -1,7 +1,7 @@
-use Rattle.std.proofs.Common.{◌+◌, ◌≤◌, ◌^◌, ℕ, List, ap, inr, length, refl, sym, subst, ◌∙◌}
+use Rattle.std.proofs.Common.{◌+◌, ◌≤◌, ◌^◌, ℕ, List, ap, inr, length, refl, subst, ◌∙◌}
 use Rattle.nq_sexp.specs.Tree.{tree}
 use Rattle.nq_comment.specs.Reports.{Report}
-use Rattle.nq_comment.specs.ReportViews.{text_of}
+use Rattle.nq_comment.specs.ReportViews.{answer_of, text_of}
 use Rattle.nq_comment.specs.Text.{lines_of_report}
 use Rattle.nq_comment.specs.Totals.{totals_in, with_kind}
 use Rattle.nq_comment.specs.declared.kind.Kind.{Kind}
@@ -10,23 +10,17 @@ use Rattle.nq_run.specs.HistoryView.{history_of}
 use Rattle.nq_run.proofs.LogLemmas.{logs_within_none, within_whole}
 use Rattle.nq_run.proofs.RunLemmas.{appends_as, log_within_as, logs_as, on_err, within_as}
 use Rattle.nq_run.proofs.TakingLemmas.{answered_as, answered_here, answered_logging, reported_as, reports_alike}
-use Rattle.nq_run.specs.Spelled.{IsSpelledEvent}
-use Rattle.nq_run.proofs.SpelledLemmas.{event_spelled}
 use Rattle.nq_run.proofs.runs.turn.Goals as goal
-
-pub take-requires-clause-spelled : goal.take-requires-clause-spelled
-take-requires-clause-spelled g c = subst IsSpelledEvent (sym c.event_of.ensures) (event_spelled (tree c.args.form.now) c.requires.spelled)
 
 pub returns-in_err-write_text-clause-stopped : goal.returns-in_err-write_text-clause-stopped
 returns-in_err-write_text-clause-stopped g c =
     let taken = c.in-Ok.taken in
     let form = tree c.args.form.now in
-    let same = reports_alike taken.answer (text_of c.word_of.result) (word_of form) (text_of c.name_of.result) (name_of form) c.word_of.ensures c.name_of.ensures in
+    let same = reports_alike (answer_of taken.answer) (text_of c.word_of.result) (word_of form) (text_of c.name_of.result) (name_of form) c.word_of.ensures c.name_of.ensures in
     on_err c.from_residual.result _ (inr (record {
-      report = reported_as form taken.answer;
+      report = reported_as form (answer_of taken.answer);
       block = taken.block;
-      answered = answered_here (history_of c.args.session) _ form taken.answer _ c.args.progress.log.logging taken.block c.event_of.ensures
-          c.in-Ok.ensures.answer c.in-Ok.ensures.after c.in-Ok.ensures.block c.in-Ok.ensures.stands.symbols;
+      answered = answered_here (history_of c.args.session) form c.args.progress.log.logging taken c.in-Ok.ensures;
       text = within_as _ _ _ _ (c.in-Ok-render_report.ensures ∙ ap (λ (r : Report). lines_of_report (c.args.progress.counts.forms + 1) r) same) c.as_slice.ensures.value c.in_err-write_text.ensures.err;
       log = logs_within_none _ _ _ _ refl;
     }))
@@ -35,14 +29,13 @@ pub returns-then-is_full_with-clause-full : goal.returns-then-is_full_with-claus
 returns-then-is_full_with-clause-full g c e =
     let taken = c.in-Ok.taken in
     let form = tree c.args.form.now in
-    let same = reports_alike taken.answer (text_of c.word_of.result) (word_of form) (text_of c.name_of.result) (name_of form) c.word_of.ensures c.name_of.ensures in
+    let same = reports_alike (answer_of taken.answer) (text_of c.word_of.result) (word_of form) (text_of c.name_of.result) (name_of form) c.word_of.ensures c.name_of.ensures in
     let full = c.is_full_with.ensures.0 c.if-is_full_with.true in (
       full.0,
       record {
-        report = reported_as form taken.answer;
+        report = reported_as form (answer_of taken.answer);
         block = taken.block;
-        answered = answered_logging _ _ _ _ c.args.progress.log.logging _ full.0 (answered_here (history_of c.args.session) _ form taken.answer _ c.args.progress.log.logging taken.block c.event_of.ensures
-            c.in-Ok.ensures.answer c.in-Ok.ensures.after c.in-Ok.ensures.block c.in-Ok.ensures.stands.symbols);
+        answered = answered_logging _ _ _ _ c.args.progress.log.logging _ full.0 (answered_here (history_of c.args.session) form c.args.progress.log.logging taken c.in-Ok.ensures);
         full = subst (λ (t : List ℕ). 2 ^ 62 ≤ c.args.progress.log.count + length t) c.as_slice-2.ensures full.1;
         text = appends_as _ _ _ _ (c.in-Ok-render_report.ensures ∙ ap (λ (r : Report). lines_of_report (c.args.progress.counts.forms + 1) r) same) c.as_slice.ensures.value c.in_ok-write_text.ensures.ok;
         log = refl;
@@ -53,12 +46,11 @@ pub returns-then-is_full_with-clause-stopped : goal.returns-then-is_full_with-cl
 returns-then-is_full_with-clause-stopped g c =
     let taken = c.in-Ok.taken in
     let form = tree c.args.form.now in
-    let same = reports_alike taken.answer (text_of c.word_of.result) (word_of form) (text_of c.name_of.result) (name_of form) c.word_of.ensures c.name_of.ensures in
+    let same = reports_alike (answer_of taken.answer) (text_of c.word_of.result) (word_of form) (text_of c.name_of.result) (name_of form) c.word_of.ensures c.name_of.ensures in
     inr (record {
-      report = reported_as form taken.answer;
+      report = reported_as form (answer_of taken.answer);
       block = taken.block;
-      answered = answered_here (history_of c.args.session) _ form taken.answer _ c.args.progress.log.logging taken.block c.event_of.ensures
-          c.in-Ok.ensures.answer c.in-Ok.ensures.after c.in-Ok.ensures.block c.in-Ok.ensures.stands.symbols;
+      answered = answered_here (history_of c.args.session) form c.args.progress.log.logging taken c.in-Ok.ensures;
       text = within_whole _ _ _ (appends_as _ _ _ _ (c.in-Ok-render_report.ensures ∙ ap (λ (r : Report). lines_of_report (c.args.progress.counts.forms + 1) r) same)
           c.as_slice.ensures.value c.in_ok-write_text.ensures.ok);
       log = logs_within_none _ _ _ _ refl;
@@ -68,12 +60,11 @@ pub returns-in_err-log-clause-stopped : goal.returns-in_err-log-clause-stopped
 returns-in_err-log-clause-stopped g c =
     let taken = c.in-Ok.taken in
     let form = tree c.args.form.now in
-    let same = reports_alike taken.answer (text_of c.word_of.result) (word_of form) (text_of c.name_of.result) (name_of form) c.word_of.ensures c.name_of.ensures in
+    let same = reports_alike (answer_of taken.answer) (text_of c.word_of.result) (word_of form) (text_of c.name_of.result) (name_of form) c.word_of.ensures c.name_of.ensures in
     on_err c.from_residual-in_err-log.result _ (inr (record {
-      report = reported_as form taken.answer;
+      report = reported_as form (answer_of taken.answer);
       block = taken.block;
-      answered = answered_here (history_of c.args.session) _ form taken.answer _ c.args.progress.log.logging taken.block c.event_of.ensures
-          c.in-Ok.ensures.answer c.in-Ok.ensures.after c.in-Ok.ensures.block c.in-Ok.ensures.stands.symbols;
+      answered = answered_here (history_of c.args.session) form c.args.progress.log.logging taken c.in-Ok.ensures;
       text = within_whole _ _ _ (appends_as _ _ _ _ (c.in-Ok-render_report.ensures ∙ ap (λ (r : Report). lines_of_report (c.args.progress.counts.forms + 1) r) same)
           c.as_slice.ensures.value c.in_ok-write_text.ensures.ok);
       log = log_within_as _ _ _ _ _ c.as_slice-3.ensures c.in_err-log.ensures.err;
@@ -83,13 +74,12 @@ pub returns-clause-turned : goal.returns-clause-turned
 returns-clause-turned g c =
     let taken = c.in-Ok.taken in
     let form = tree c.args.form.now in
-    let same = reports_alike taken.answer (text_of c.word_of.result) (word_of form) (text_of c.name_of.result) (name_of form) c.word_of.ensures c.name_of.ensures in
+    let same = reports_alike (answer_of taken.answer) (text_of c.word_of.result) (word_of form) (text_of c.name_of.result) (name_of form) c.word_of.ensures c.name_of.ensures in
     record {
-      report = reported_as form taken.answer;
+      report = reported_as form (answer_of taken.answer);
       block = taken.block;
-      answered = answered_as (history_of c.args.session) (history_of taken.session) form taken.answer _ c.args.progress.log.logging taken.block c.event_of.ensures
-          c.in-Ok.ensures.answer c.in-Ok.ensures.after c.in-Ok.ensures.block c.in-Ok.ensures.stands.symbols;
-      totals = c.with.ensures ∙ ap (λ (k : Kind). with_kind k (totals_in c.args.progress.counts)) (c.kind.ensures _);
+      answered = answered_as (history_of c.args.session) form c.args.progress.log.logging taken c.in-Ok.ensures;
+      totals = c.with.ensures ∙ ap (λ (k : Kind). with_kind k (totals_in c.args.progress.counts)) c.kind-kind.ensures;
       text = appends_as _ _ _ _ (c.in-Ok-render_report.ensures ∙ ap (λ (r : Report). lines_of_report (c.args.progress.counts.forms + 1) r) same) c.as_slice.ensures.value c.in_ok-write_text.ensures.ok;
       log = logs_as _ _ _ _ _ c.as_slice-3.ensures c.in_ok-log.ensures.ok;
       log_count = λ w. c.in_ok-log.ensures.count w ∙ ap (λ n. c.args.progress.log.count + n) (ap length c.as_slice-3.ensures);

@@ -42,6 +42,9 @@ returns-in-SplitSecond-clause-rule c = subst (WritesRule c.args.bank.now c.args.
 pub returns-in-NotNot-clause-rule : goal.returns-in-NotNot-clause-rule
 returns-in-NotNot-clause-rule c = subst (WritesRule c.args.bank.now c.args.self.now c.without_nots.result c.without_nots.new.self) (sym (ap (rule_at c.args.bank.now) c.in-NotNot.is)) (c.without_nots.ensures.rule c.args.bank.now)
 
+pub returns-in-Value-clause-rule : goal.returns-in-Value-clause-rule
+returns-in-Value-clause-rule c = subst (WritesRule c.args.bank.now c.args.self.now c.valued.result c.valued.new.self) (sym (ap (rule_at c.args.bank.now) c.in-Value.is)) c.valued.ensures.rule
+
 pub returns-in-AxiomRow-clause-rule : goal.returns-in-AxiomRow-clause-rule
 returns-in-AxiomRow-clause-rule c = subst (WritesRule c.args.bank.now c.args.self.now c.axiom.result c.axiom.new.self) (sym (ap (rule_at c.args.bank.now) c.in-AxiomRow.is)) c.axiom.ensures.rule
 

@@ -11,7 +11,7 @@ use Rattle.nq_rule.specs.Inductions.{cases_at}
 use Rattle.nq_rule.specs.Sides.{side_of}
 use Rattle.nq_kernel.specs.Lines.{ids_at}
 use Rattle.nq_kernel.specs.Meaning.{rule_at, clause_at}
-use Rattle.nq_kernel.proofs.Concluding.{is_some-mapped, taut_test, axiom_test, event_test, weaken_test, cut_test, instance_test, reflexive_test, replace_test, join_test, split_first_test, split_second_test, not_not_test, induct_test, induction_shown}
+use Rattle.nq_kernel.proofs.Concluding.{is_some-mapped, taut_test, axiom_test, event_test, weaken_test, cut_test, instance_test, reflexive_test, replace_test, join_test, split_first_test, split_second_test, not_not_test, value_test, induct_test, induction_shown}
 use Rattle.nq_kernel.proofs.log.Log.allowed.Goals as goal
 
 pub returns-in-Taut : goal.returns-in-Taut
@@ -70,6 +70,9 @@ pub returns-in-NotNot : goal.returns-in-NotNot
 returns-in-NotNot c =
     c.is_some-allowed-in-NotNot.ensures ∙ is_some-mapped (term_at c.args.bank.now) c.under_literal.result ∙ ap is_some c.under_literal.ensures.term ∙
     not_not_test c.args.bank.now c.args.history.now c.args.self.now c.args.rule.now c.in-NotNot.line c.in-NotNot.place (ap (rule_at c.args.bank.now) c.in-NotNot.is)
+
+pub returns-in-Value : goal.returns-in-Value
+returns-in-Value c = c.has_value-allowed.ensures ∙ value_test c.args.bank.now c.args.history.now c.args.self.now c.args.rule.now (term_at c.args.bank.now c.in-Value.t) (ap (rule_at c.args.bank.now) c.in-Value.is)
 
 pub returns-in_ok-allowed-in-Induct : goal.returns-in_ok-allowed-in-Induct
 returns-in_ok-allowed-in-Induct c =

@@ -12,7 +12,7 @@ use Rattle.nq_rule.specs.Inductions.{cases_at}
 use Rattle.nq_rule.specs.Sides.{side_of}
 use Rattle.nq_kernel.specs.Lines.{ids_at}
 use Rattle.nq_kernel.specs.Meaning.{rule_at, is_axiom_row}
-use Rattle.nq_kernel.proofs.Concluding.{told, is_some-mapped, taut_is, axiom_test, axiom_is, event_test, event_is, weaken_test, weaken_is, cut_test, cut_is, instance_test, instance_is, reflexive_is, replace_stands, replace_leads, replace_is, join_test, join_is, split_first_test, split_first_is, split_second_test, split_second_is, not_not_test, not_not_is, induct_is}
+use Rattle.nq_kernel.proofs.Concluding.{told, is_some-mapped, taut_is, axiom_test, axiom_is, event_test, event_is, weaken_test, weaken_is, cut_test, cut_is, instance_test, instance_is, reflexive_is, replace_stands, replace_leads, replace_is, join_test, join_is, split_first_test, split_first_is, split_second_test, split_second_is, not_not_test, not_not_is, value_test, value_is, induct_is}
 use Rattle.nq_kernel.proofs.log.Log.conclude.Goals as goal
 
 pub term_of-requires-clause-entries : goal.term_of-requires-clause-entries
@@ -74,6 +74,9 @@ split_second-requires-clause-branches c = split_second_test c.args.bank.now c.ar
 
 pub without_nots-requires-clause-nots : goal.without_nots-requires-clause-nots
 without_nots-requires-clause-nots c = not_not_test c.args.bank.now c.args.history.now c.args.self.now c.args.rule.now c.in-NotNot.line c.in-NotNot.place (ap (rule_at c.args.bank.now) c.in-NotNot.is) ∙ c.requires.allowed
+
+pub value_clause-requires-clause-value : goal.value_clause-requires-clause-value
+value_clause-requires-clause-value c = value_test c.args.bank.now c.args.history.now c.args.self.now c.args.rule.now (term_at c.args.bank.now c.in-Value.t) (ap (rule_at c.args.bank.now) c.in-Value.is) ∙ c.requires.allowed
 
 pub returns-in-Taut-clause-ok : goal.returns-in-Taut-clause-ok
 returns-in-Taut-clause-ok c =
@@ -145,6 +148,14 @@ pub returns-in-NotNot-clause-ok : goal.returns-in-NotNot-clause-ok
 returns-in-NotNot-clause-ok c =
     let P : Option Clause → Type 0 = λ o. IfOk c.without_nots.result (λ v. Concludes c.args.bank.now v.items o) in
     subst P (sym (not_not_is c.args.bank.now c.args.history.now c.args.self.now c.args.rule.now c.in-NotNot.line c.in-NotNot.place (ap (rule_at c.args.bank.now) c.in-NotNot.is))) c.without_nots.ensures.ok
+
+pub returns-in-Value-clause-ok : goal.returns-in-Value-clause-ok
+returns-in-Value-clause-ok c =
+    let P : Option Clause → Type 0 = λ o. IfOk c.value_clause.result (λ v. Concludes c.value_clause.new.bank v.items o) in
+    subst P (sym (value_is c.args.bank.now c.args.history.now c.args.self.now c.args.rule.now (term_at c.args.bank.now c.in-Value.t) (ap (rule_at c.args.bank.now) c.in-Value.is))) c.value_clause.ensures.ok
+
+pub returns-in-Value-clause-deep : goal.returns-in-Value-clause-deep
+returns-in-Value-clause-deep c = λ e. subst IsDeep (sym (value_is c.args.bank.now c.args.history.now c.args.self.now c.args.rule.now (term_at c.args.bank.now c.in-Value.t) (ap (rule_at c.args.bank.now) c.in-Value.is))) (c.value_clause.ensures.deep e)
 
 pub returns-in-Induct-clause-ok : goal.returns-in-Induct-clause-ok
 returns-in-Induct-clause-ok c =

@@ -1,7 +1,5 @@
-use Rattle.std.proofs.Common.{◌≡◌, ℕ, ◌+◌, ◌-◌, ◌<◌, ◌^◌, min, length, ap, ◌∙◌, arith}
-use Rattle.nq_kernel.specs.Steps.{steps_of}
 use Rattle.nq_kernel.proofs.GrowingLemmas.{added_clause, grows_by_line, grows_without_line}
-use Rattle.nq_kernel.proofs.StepLemmas.{counted_is, err_holds}
+use Rattle.nq_kernel.proofs.StepLemmas.{err_holds}
 use Rattle.nq_kernel.proofs.work.Work.add.Goals as goal
 
 pub returns-then-count-clause-line : goal.returns-then-count-clause-line

@@ -1,4 +1,5 @@
-use Rattle.nq_run.proofs.SessionLemmas.{grounded, no_lines, no_rules}
+use Rattle.nq_run.proofs.SessionLemmas.{no_lines, no_rules}
+use Rattle.nq_run.proofs.TakingLemmas.{grounded}
 use Rattle.nq_run.proofs.session.Session.boot_strap.Goals as goal
 
 pub block_of-requires-clause-legal : goal.block_of-requires-clause-legal
@@ -12,4 +13,5 @@ block_of-requires-clause-names c = c.requires.symbols
 
 pub returns : goal.returns
 returns c =
-    grounded c.args.self c.in_ok-session.session c.args.logging c.in_ok-block.block c.in_ok-session.ensures.none c.in_ok-session.ensures.stands c.in_ok-block.ensures
+    λ form.
+    grounded c.args.self c.in_ok-session.session form c.args.logging c.in_ok-block.block c.in_ok-session.ensures.none c.in_ok-session.ensures.stands c.in_ok-block.ensures

@@ -1,0 +1,17 @@
+-- Texts of terms, read and translated.
+use Rattle.std.proofs.Common.{ℕ, ◌≤◌, List, length, sym, subst, append-nil}
+use Rattle.nq_form.specs.Form.{Forms, end, next}
+use Rattle.nq_form.specs.Grammar.{Items, Reads, done, to_end, bare}
+use Rattle.nq_form.proofs.OneReading.{one_reading}
+use Rattle.nq_language.specs.Printing.{printed}
+use Rattle.nq_language.proofs.PrintedForms.{printed_is_read}
+use Rattle.nq_abbrev.specs.Printed.{PrintedIsTranslated}
+
+whole : (levels limit : ℕ) (t : List ℕ) (fs : Forms) → Items levels t fs → length t ≤ limit → Reads levels limit t fs done
+whole levels limit t fs items short =
+    subst (λ (u : List ℕ). Reads levels limit u fs done) (append-nil t) (to_end items bare (subst (λ (u : List ℕ). length u ≤ limit) (sym (append-nil t)) short))
+
+pub printed_is_translated : PrintedIsTranslated
+printed_is_translated arity t ok small =
+    let r = printed_is_read arity t ok small in
+    (r.0, r.1, λ levels limit fs e nested short reads. one_reading levels limit (printed t) fs (next r.0 end) e done reads (whole levels limit (printed t) (next r.0 end) (r.2 levels nested) short))

@@ -1,0 +1,12 @@
+pub mod Known
+pub mod Words
+pub mod Met
+pub mod Pairs
+pub mod Parts
+pub mod Values
+pub mod Scope
+pub mod Nests
+pub mod InScope
+pub mod Meant
+pub mod Printed
+pub mod Reserved

@@ -1,0 +1,16 @@
+pub mod ReadLemmas
+pub mod NameLemmas
+pub mod MadeNameLemmas
+pub mod ArityLemmas
+pub mod ToldLemmas
+pub mod GrownLemmas
+pub mod OrderLemmas
+pub mod HintSumLemmas
+pub mod DefinitionLemmas
+pub mod NumberedLemmas
+pub mod ShapeLemmas
+pub mod HintLoopLemmas
+pub mod LargeLemmas
+pub mod EventLemmas
+pub mod ParseLemmas
+pub mod InstanceLemmas

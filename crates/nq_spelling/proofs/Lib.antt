@@ -1,0 +1,3 @@
+pub mod TermVariables
+pub mod FormVariables
+pub mod SpelledTerms

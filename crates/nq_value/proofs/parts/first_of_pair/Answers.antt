@@ -1,0 +1,7 @@
+use Rattle.std.proofs.Common.{sym, ap, ◌∙◌}
+use Rattle.nq_proof.specs.Values.{first_of_pair}
+use Rattle.nq_value.proofs.NumeralLemmas.{first-numeral}
+use Rattle.nq_value.proofs.parts.first_of_pair.Goals as goal
+
+pub returns-in-Number-clause-part : goal.returns-in-Number-clause-part
+returns-in-Number-clause-part c = first-numeral c.in-Number.field-0 ∙ sym (ap first_of_pair c.in-Number.ensures.1)
