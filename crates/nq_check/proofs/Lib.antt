@@ -11,3 +11,5 @@ mod NumberLemmas
 mod CallLemmas
 mod PassingLemmas
 mod CheckingLemmas
+mod BodyLemmas
+mod DefinitionLemmas

@@ -9,7 +9,7 @@ use Rattle.nq_logic.specs.Terms.{Name, Term, Variable, Function, Applied}
 use Rattle.nq_logic.specs.Words.{numeral}
 use Rattle.nq_logic.specs.Numerals.{number_of, numeral_limit}
 use Rattle.nq_bank.proofs.Numerals.{number_of-numeral}
-use Rattle.nq_log.specs.States.{Block, term_at, terms_at, variable_at, variable_of}
+use Rattle.nq_log.specs.States.{Block, term_at, terms_at, variable_at, variable_of, variables_at}
 use Rattle.nq_log.specs.RuleLines.{substitution_at}
 use Rattle.nq_log.specs.Fields.{numbers_in, pairs_in}
 use Rattle.nq_check.specs.Contexts.{pair_of}
@@ -36,6 +36,10 @@ front_more block n ns xs t e = ap (λ (o : Option Term). with_front xs (o >>= λ
 
 pub front_stops : (block : Block) (n : ℕ) (ns : List ℕ) (xs : List Term) → term_at block n ≡ None → with_front xs (terms_at block (n ∷ ns)) ≡ None
 front_stops block n ns xs e = ap (λ (o : Option Term). with_front xs (o >>= λ t. terms_at block ns >>= λ ts. Some (t ∷ ts))) e
+
+-- the same of variables
+pub names_more : (block : Block) (n : ℕ) (ns : List ℕ) (xs : List Name) (x : Name) → variable_at block n ≡ Some x → with_front xs (variables_at block (n ∷ ns)) ≡ with_front (xs ++ (x ∷ [])) (variables_at block ns)
+names_more block n ns xs x e = ap (λ (o : Option Name). with_front xs (o >>= λ x. variables_at block ns >>= λ xs. Some (x ∷ xs))) e ∙ by_rest xs x (variables_at block ns)
 
 pub numbers_again : (ns : List ℕ) → numbers_in (flat_map one_number ns) ≡ Some ns
 numbers_again [] = refl

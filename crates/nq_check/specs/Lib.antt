@@ -7,5 +7,6 @@ pub mod Cases
 pub mod Judging
 pub mod Claims
 pub mod Shells
+pub mod Definitions
 pub mod Passing
 pub mod Checking

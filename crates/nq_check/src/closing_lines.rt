@@ -23,7 +23,7 @@ use nq_history::EntryKind;
 use std::alloc::AllocError;
 
 /// The least number of arguments that a function may not have.
-const ARITY_LIMIT: u64 = 1 << 32;
+pub const ARITY_LIMIT: u64 = 1 << 32;
 
 /// The most nodes of a claimed term.
 const MOST_NODES: u64 = 100_000;
@@ -32,7 +32,7 @@ const MOST_NODES: u64 = 100_000;
 const GREATEST_DEPTH: u32 = 2_000;
 
 /// May a term be claimed?
-fn is_small(bank: &Bank, t: TermId) -> bool
+pub fn is_small(bank: &Bank, t: TermId) -> bool
     requires { Stands bank.now t }
     ensures { result ≡ is_small (term_at bank.now t) }
 {

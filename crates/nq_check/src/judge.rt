@@ -81,7 +81,11 @@ impl Context {
             LogLine::Lemma { name, term, line } => {
                 self.lemma_line(name.as_slice(), *term, *line)
             }
-            LogLine::Defn { .. } => Ok(Judged::NotAllowed),
+            LogLine::Defn {
+                function,
+                body,
+                formals,
+            } => self.definition_line(function.as_slice(), *body, formals.as_slice()),
             LogLine::Measure { .. } => Ok(Judged::NotAllowed),
             LogLine::Toggle {
                 name,

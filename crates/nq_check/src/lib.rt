@@ -14,8 +14,10 @@ mod judged;
 mod waiting;
 
 // the lines of a block: terms, clauses by rules, and claims
+mod bodies;
 mod claims;
 mod closing_lines;
+mod definition_lines;
 mod inductions;
 mod judge;
 mod numbers;

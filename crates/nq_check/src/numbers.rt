@@ -2,8 +2,9 @@
 ghost use Rattle.std.specs.Prelude.{◌≡◌, IfOk, IfSome, All, map};
 ghost use Rattle.std.specs.Option.{option_map};
 ghost use Rattle.nq_bank.specs.Content.{IsNamed, Stands, term_at, terms_at, text_at};
+ghost use Rattle.nq_bank.specs.Shells.{texts_at};
 ghost use Rattle.nq_clause.specs.Substitution.{substitution_at, PairStands};
-ghost use Rattle.nq_log.specs.States.{terms_at as terms_of_block, variable_at, variable_of};
+ghost use Rattle.nq_log.specs.States.{terms_at as terms_of_block, variable_at, variable_of, variables_at};
 ghost use Rattle.nq_log.specs.RuleLines.{substitution_at as substitution_of_block};
 ghost use Rattle.nq_check.specs.Contexts.{pair_of, state_of, IsWhole};
 ghost use Rattle.nq_check.specs.Pairs.{bound_at, pair_at};
@@ -52,6 +53,22 @@ impl Context {
     {
         let t = self.term(number)?;
         variable_of(&self.bank, t)
+    }
+
+    /// The names of the variables of some numbers, where each number has one.
+    pub fn variables(&self, numbers: &[u64]) -> Result<Option<Vec<Sym>>, AllocError>
+        requires { IsWhole self.now }
+        ensures names { IfOk result (λ found. option_map (λ names. texts_at self.now.bank names.items) found ≡ variables_at (state_of self.now).block numbers.now) }
+        ensures stand { IfOk result (λ found. IfSome found (λ names. All (IsNamed self.now.bank) names.items)) }
+    {
+        let mut names = Vec::with_capacity(self.bank.alloc(), numbers.len())?;
+        for number in numbers {
+            let Some(s) = self.variable(*number) else {
+                return Ok(None);
+            };
+            names.push(s)?;
+        }
+        Ok(Some(names))
     }
 
     /// The variable and the term of a binding, where its numbers have them.

@@ -2,3 +2,8 @@ pub mod Lookups
 pub mod OccurrenceLemmas
 pub mod SubstitutionLemmas
 pub mod InstanceLemmas
+pub mod BoundLemmas
+pub mod BindingLemmas
+pub mod MatchLemmas
+pub mod RoomLemmas
+pub mod SubsumptionLemmas

@@ -2,6 +2,7 @@
 ghost use Rattle.std.specs.Prelude.{◌≡◌, nat_eq, Some, OnOk, Err};
 ghost use Rattle.std.specs.HashMap.{get, Updates};
 
+use crate::binding::Bound;
 use nq_bank::{BankFault, TermId};
 use std::alloc::AllocError;
 use std::collections::HashMap;
@@ -40,5 +41,24 @@ pub fn keep_answer(
     ensures { OnOk result (Updates nat_eq known.old known.new t.0 (Some answer)) }
 {
     known.insert(t.0, answer)?;
+    Ok(())
+}
+
+/// What a term is known to be matched with.
+pub fn known_bound(known: &HashMap<u64, Bound>, t: TermId) -> Option<Bound>
+    ensures { result ≡ get nat_eq known.now t.0 }
+{
+    known.get(&t.0).copied()
+}
+
+/// Keeps what a term is matched with.
+pub fn keep_bound(
+    known: &mut HashMap<u64, Bound>,
+    t: TermId,
+    bound: Bound,
+) -> Result<(), AllocError>
+    ensures { OnOk result (Updates nat_eq known.old known.new t.0 (Some bound)) }
+{
+    known.insert(t.0, bound)?;
     Ok(())
 }

@@ -15,6 +15,7 @@ use Rattle.nq_form.specs.Grammar.{Ending, done, fault}
 -- the fragment of the program, as the model sees it
 abbrev pub quick_of : Quick → model.Quick
 quick_of quick.Taut = model.Taut
+quick_of quick.Eval = model.Eval
 quick_of quick.Inst = model.Inst
 
 abbrev pub words_of : List (Vec ℕ Global) → List (List ℕ)

@@ -3,9 +3,11 @@ use Rattle.std.specs.Prelude.{ℕ, List, Option}
 use Rattle.nq_comment.specs.declared.kind.Kind.{Kind}
 use Rattle.nq_comment.specs.declared.kind.Kind.TheVariants as kind
 
--- the fragment in which a lemma was proved without a search: a small tautology, or an instance of an earlier lemma or axiom
+-- the fragment in which a lemma was proved without a search: a small tautology, a ground term with a value, or an instance of
+-- an earlier lemma or axiom
 pub data Quick : Type 0 where
   Taut : Quick
+  Eval : Quick
   Inst : Quick
 
 -- What a form is answered. The words of a refusal begin with its name.

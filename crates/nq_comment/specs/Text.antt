@@ -2,7 +2,7 @@
 use Rattle.std.specs.Prelude.{◌+◌, ◌==◌, if◌then◌else◌, ℕ, List, [], ◌∷◌, ◌++◌, Option, Some, None, codes}
 use Rattle.std.specs.List.{flat_map}
 use Rattle.std.specs.Fmt.{decimal}
-use Rattle.nq_comment.specs.Reports.{Answer, Accepted, Undone, Skipped, Proved, Refused, Quick, Taut, Inst, Report}
+use Rattle.nq_comment.specs.Reports.{Answer, Accepted, Undone, Skipped, Proved, Refused, Quick, Taut, Eval, Inst, Report}
 use Rattle.nq_comment.specs.Totals.{Totals, totals_of}
 use Rattle.nq_form.specs.Grammar.{Ending, done, fault, too_long}
 
@@ -20,6 +20,7 @@ shown_name None = []
 
 abbrev pub quick_word : Quick → List ℕ
 quick_word Taut = codes "TAUT"
+quick_word Eval = codes "EVAL"
 quick_word Inst = codes "INST"
 
 -- a space before each word

@@ -9,6 +9,8 @@ use crate::kind::Kind;
 pub enum Quick {
     /// A small tautology.
     Taut,
+    /// A ground term with a value.
+    Eval,
     /// An instance of an earlier axiom or lemma.
     Inst,
 }

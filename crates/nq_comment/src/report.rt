@@ -98,6 +98,7 @@ fn quick_word(quick: Quick) -> &'static [u8]
 {
     match quick {
         Quick::Taut => b"TAUT".as_slice(),
+        Quick::Eval => b"EVAL".as_slice(),
         Quick::Inst => b"INST".as_slice(),
     }
 }

@@ -12,7 +12,9 @@ use Rattle.nq_history.proofs.ShellLemmas.{texts-grown, names-grown}
 use Rattle.nq_events.specs.Refusals.{Refusal}
 use Rattle.nq_events.specs.TermRefusals.{first}
 use Rattle.nq_event.specs.declared.fault.EventFault.{EventFault}
-use Rattle.nq_event.specs.EventsAt.{measure_at, pair_at, instance_at, MeasureStands, PairStands, InstanceStands}
+use Rattle.nq_clause.specs.Substitution.{PairStands}
+use Rattle.nq_history.specs.Hints.{InstanceStands}
+use Rattle.nq_event.specs.EventsAt.{measure_at, pair_at, instance_at, MeasureStands}
 use Rattle.nq_event.specs.Readings.{IsToldOf, IsReadAs}
 use Rattle.nq_event.proofs.ToldLemmas.{told_first}
 
@@ -56,8 +58,8 @@ measures_stay = record {
 
 pub pairs_stay : Stays PairStands pair_at
 pairs_stay = record {
-  keeps = λ old new p grows h. record { variable = IsNamed-grown old new p.variable grows h.variable; replacing = Stands-grown old new p.term grows h.replacing };
-  same = λ old new p grows h. let r = text_at-grown old new p.variable grows h.variable in let t = term_at-grown old new p.term grows h.replacing in rw (r, t) refl;
+  keeps = λ old new p grows h. record { variable = IsNamed-grown old new p.variable grows h.variable; term = Stands-grown old new p.term grows h.term };
+  same = λ old new p grows h. let r = text_at-grown old new p.variable grows h.variable in let t = term_at-grown old new p.term grows h.term in rw (r, t) refl;
 }
 
 pub instances_stay : Stays InstanceStands instance_at

@@ -12,9 +12,10 @@ use Rattle.nq_events.specs.WrittenHints.{WrittenHint, hint_in}
 use Rattle.nq_events.specs.TermRefusals.{arity_of, first, hint_forms, hints_forms, terms_refusal}
 use Rattle.nq_events.specs.HintTerms.{hints_given}
 use Rattle.nq_events.specs.HintRefusals.{first_bad, hints_refusal, is_good_hint, stands_twice}
-use Rattle.nq_event.specs.declared.event.Hints.{Hints as KeptHints}
+use Rattle.nq_history.specs.declared.hints.Hints.{Hints as KeptHints}
 use Rattle.nq_event.specs.declared.fault.EventFault.{EventFault}
-use Rattle.nq_event.specs.EventsAt.{hints_at as hints_of, HintsStand}
+use Rattle.nq_history.specs.Hints.{HintsStand}
+use Rattle.nq_event.specs.EventsAt.{hints_at as hints_of}
 use Rattle.nq_event.specs.Hints.{hints_at, no_hint, words_at}
 use Rattle.nq_event.specs.HintSums.{bad_hint, hint_given, joined, no_hints, IsAdded, AreHintsRead}
 use Rattle.nq_event.specs.Reads.{value_or}

@@ -22,9 +22,10 @@ use Rattle.nq_events.specs.TermRefusals.{arity_of, first, hint_forms, instances_
 use Rattle.nq_events.specs.HintTerms.{given, used, expanded, inducted, first_term, hints_given, instance_given, term_in, listed_by}
 use Rattle.nq_events.specs.HintRefusals.{first_bad, is_event, is_function, is_good_hint, is_usable, stands_twice}
 use Rattle.nq_events.specs.Inductions.{opened_by, suggests_induction}
-use Rattle.nq_event.specs.declared.event.Hints.{Hints as KeptHints}
-use Rattle.nq_event.specs.declared.event.Instance.{Instance}
-use Rattle.nq_event.specs.EventsAt.{hints_at, instance_at, HintsStand, InstanceStands}
+use Rattle.nq_history.specs.declared.hints.Hints.{Hints as KeptHints}
+use Rattle.nq_history.specs.declared.hints.Instance.{Instance}
+use Rattle.nq_history.specs.Hints.{HintsStand, InstanceStands}
+use Rattle.nq_event.specs.EventsAt.{hints_at, instance_at}
 use Rattle.nq_event.specs.HintSums.{no_hints, id_or, term_or, joined, hint_given, IsAdded}
 use Rattle.nq_event.specs.Readings.{AreNamesOf}
 use Rattle.nq_event.proofs.DefinitionLemmas.{or_assoc, or_false}

@@ -11,7 +11,7 @@ use Rattle.nq_history.specs.Events.{EntryStands}
 use Rattle.nq_history.specs.Lookups.{entry_named}
 use Rattle.nq_events.specs.Refusals.{Refusal, OfLanguage}
 use Rattle.nq_events.specs.HintRefusals.{instance_term, instances_refusal, is_large_instance}
-use Rattle.nq_event.specs.declared.event.Instance.{Instance}
+use Rattle.nq_history.specs.declared.hints.Instance.{Instance}
 use Rattle.nq_event.specs.EventsAt.{instance_at}
 
 -- an entry that is found stands

@@ -17,9 +17,10 @@ use Rattle.nq_bank.specs.Soundness.{IsSound}
 use Rattle.nq_bank.proofs.Growth.{text_at-grown, term_at-grown}
 use Rattle.nq_bank.proofs.SoundLemmas.{IsNamed-ground, text_at-ground}
 use Rattle.nq_event.specs.declared.definitions.Definition.{Definition as KeptDefinition}
-use Rattle.nq_event.specs.declared.event.Replacement.{Replacement}
+use Rattle.nq_clause.specs.declared.substitution.Pair.{Pair}
 use Rattle.nq_event.specs.Definitions.{definition_at, DefinitionStands}
-use Rattle.nq_event.specs.EventsAt.{pair_at, PairStands}
+use Rattle.nq_clause.specs.Substitution.{PairStands}
+use Rattle.nq_event.specs.EventsAt.{pair_at}
 use Rattle.nq_event.proofs.GrownLemmas.{map_map, map_grown, pairs_stay}
 
 -- a term that is too deep for a bank is too large
@@ -46,7 +47,7 @@ module _ (s : Substitution) (d : Definition) where
   deep_body deep = subst (λ (t : Term). depth_limit < depth_of t) (sym equation_is) (deep_argument (codes "EQUAL") (called ∷ substituted s d.body ∷ []) 1 called (omega arith) deep)
 
 -- an instance of a kept definition, in a bank that grew
-module _ (start now : Content) (grows : Grows start now) (pairs : List Replacement) (all : All (PairStands start) pairs) (d : KeptDefinition) (stands : DefinitionStands start d) where
+module _ (start now : Content) (grows : Grows start now) (pairs : List Pair) (all : All (PairStands start) pairs) (d : KeptDefinition) (stands : DefinitionStands start d) where
   abbrev by : Substitution
   by = map (pair_at start) pairs
 

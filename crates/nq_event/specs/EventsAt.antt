@@ -6,19 +6,20 @@ use Rattle.nq_bank.specs.declared.node.Sym.{Sym}
 use Rattle.nq_bank.specs.declared.node.TermId.{TermId}
 use Rattle.nq_bank.specs.Content.{Content, IsNamed, Stands, text_at, term_at, terms_at}
 use Rattle.nq_bank.specs.Shells.{texts_at, shell_at, ShellStands}
+use Rattle.nq_clause.specs.declared.substitution.Pair.{Pair}
 use Rattle.nq_history.specs.Events.{class_of}
+use Rattle.nq_history.specs.Hints.{HintsStand}
 use Rattle.nq_events.specs.Events as model
 use Rattle.nq_event.specs.declared.event.Measure.{Measure}
-use Rattle.nq_event.specs.declared.event.Replacement.{Replacement}
-use Rattle.nq_event.specs.declared.event.Instance.{Instance}
-use Rattle.nq_event.specs.declared.event.Hints.{Hints}
+use Rattle.nq_history.specs.declared.hints.Instance.{Instance}
+use Rattle.nq_history.specs.declared.hints.Hints.{Hints}
 use Rattle.nq_event.specs.declared.event.Event.{Event}
 use Rattle.nq_event.specs.declared.event.Event.TheVariants.{BootStrap, AddShell, Dcl, Defn, AddAxiom, ProveLemma, Toggle, Undo, Skipped}
 
 abbrev pub measure_at : Content → Measure → model.Measure
 measure_at bank m = record { relation = text_at bank m.relation; term = term_at bank m.term }
 
-abbrev pub pair_at : Content → Replacement → List ℕ × Term
+abbrev pub pair_at : Content → Pair → List ℕ × Term
 pair_at bank p = (text_at bank p.variable, term_at bank p.term)
 
 abbrev pub instance_at : Content → Instance → model.Instance
@@ -52,22 +53,6 @@ event_at bank Skipped = model.Skipped
 pub record MeasureStands (bank : Content) (m : Measure) : Type 0 where
   pub relation : IsNamed bank m.relation
   pub measure : Stands bank m.term
-
-pub record PairStands (bank : Content) (p : Replacement) : Type 0 where
-  pub variable : IsNamed bank p.variable
-  pub replacing : Stands bank p.term
-
-pub record InstanceStands (bank : Content) (i : Instance) : Type 0 where
-  pub name : IsNamed bank i.name
-  pub pairs : All (PairStands bank) i.pairs.items
-
-pub record HintsStand (bank : Content) (hints : Hints) : Type 0 where
-  pub instances : All (InstanceStands bank) hints.instances.items
-  pub enable : All (IsNamed bank) hints.enable.items
-  pub disable : All (IsNamed bank) hints.disable.items
-  pub expand : All (Stands bank) hints.expand.items
-  pub induct : IfSome hints.induct (Stands bank)
-  pub hands_off : All (IsNamed bank) hints.hands_off.items
 
 pub record DclStands (bank : Content) (name : Sym) (formals : List Sym) : Type 0 where
   pub name_is : IsNamed bank name

@@ -11,8 +11,9 @@ use Rattle.nq_events.specs.WrittenHints.{HintKind, WrittenHint}
 use Rattle.nq_events.specs.TermRefusals.{arity_of, terms_refusal, hint_forms, hints_forms}
 use Rattle.nq_events.specs.HintTerms.{instance_given, term_in, listed_by, used, enabled, disabled, expanded, inducted, left_alone, forbids_induction, forbids_generalization, forbids_arithmetic, first_term, hints_given}
 use Rattle.nq_events.specs.HintRefusals.{is_good_hint, hints_refusal}
-use Rattle.nq_event.specs.EventsAt.{hints_at, HintsStand}
-use Rattle.nq_event.specs.declared.event.Hints.{Hints as KeptHints}
+use Rattle.nq_history.specs.Hints.{HintsStand}
+use Rattle.nq_event.specs.EventsAt.{hints_at}
+use Rattle.nq_history.specs.declared.hints.Hints.{Hints as KeptHints}
 
 abbrev pub no_hints : Hints
 no_hints = record { instances = []; enable = []; disable = []; expand = []; induct = None; hands_off = []; no_induct = false; no_generalize = false; no_arith = false }

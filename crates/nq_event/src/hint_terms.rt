@@ -5,14 +5,13 @@ ghost use Rattle.nq_history.specs.Events.{events_at, HistoryStands};
 ghost use Rattle.nq_events.specs.WrittenHints.{Use, Enable, Disable, Expand, Induct, HandsOff};
 ghost use Rattle.nq_events.specs.TermRefusals.{arity_of, hint_forms, terms_refusal};
 ghost use Rattle.nq_sexp.specs.Tree.{tree};
-ghost use Rattle.nq_event.specs.EventsAt.{HintsStand};
+ghost use Rattle.nq_history.specs.Hints.{HintsStand};
 ghost use Rattle.nq_event.specs.Hints.{instances_at, kind_if, kind_at};
 ghost use Rattle.nq_event.specs.HintSums.{id_or, IsAdded};
 ghost use Rattle.nq_event.specs.Reads.{forms_of};
 ghost use Rattle.nq_event.specs.Readings.{IsToldOf};
 ghost use Rattle.nq_event.specs.Shapes.{names_at};
 
-use crate::event::Hints;
 use crate::fault::EventFault;
 use crate::hints::HintKind;
 use crate::inductions::{are_opened, suggests_induction};
@@ -22,7 +21,7 @@ use crate::names::names_of;
 use crate::terms::{term_in, terms_in};
 use crate::usable::are_usable;
 use nq_bank::{Bank, TermId};
-use nq_history::History;
+use nq_history::{Hints, History};
 use nq_sexp::Sexp;
 
 /// Adds the instances of USE.

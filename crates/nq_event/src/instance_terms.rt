@@ -6,17 +6,19 @@ ghost use Rattle.nq_history.specs.Events.{events_at, HistoryStands};
 ghost use Rattle.nq_events.specs.WrittenHints.{pair_in};
 ghost use Rattle.nq_events.specs.TermRefusals.{arity_of, instances_forms, pair_forms, term_refusal, terms_refusal};
 ghost use Rattle.nq_events.specs.HintTerms.{instance_given, pair_given};
-ghost use Rattle.nq_event.specs.EventsAt.{instance_at as instance_of, pair_at as pair_of, InstanceStands, PairStands};
+ghost use Rattle.nq_clause.specs.Substitution.{PairStands};
+ghost use Rattle.nq_history.specs.Hints.{InstanceStands};
+ghost use Rattle.nq_event.specs.EventsAt.{instance_at as instance_of, pair_at as pair_of};
 ghost use Rattle.nq_event.specs.Hints.{instance_at, instances_at, pair_at, pairs_at, no_pair};
 ghost use Rattle.nq_event.specs.Reads.{value_or};
 ghost use Rattle.nq_event.specs.Readings.{IsReadAs, IsToldOf};
 
-use crate::event::{Instance, Replacement};
 use crate::fault::EventFault;
 use crate::instances::{InstanceOutline, PairOutline, instance_or_none, pair_of};
 use crate::terms::term_in;
 use nq_bank::Bank;
-use nq_history::History;
+use nq_clause::Pair;
+use nq_history::{History, Instance};
 use nq_sexp::Sexp;
 
 /// A pair with its term.
@@ -24,7 +26,7 @@ fn pair_with(
     bank: &mut Bank,
     history: &History,
     outline: &PairOutline<'_>,
-) -> Result<Replacement, EventFault>
+) -> Result<Pair, EventFault>
     requires { HistoryStands bank.old history.now }
     ensures read { IfOk result (IsReadAs (PairStands bank.new) (pair_of bank.new) (term_refusal (arity_of (events_at bank.old history.now)) (pair_at outline.now).form) (pair_given (events_at bank.old history.now) (pair_at outline.now))) }
     ensures refused { IfErr result (IsToldOf (term_refusal (arity_of (events_at bank.old history.now)) (pair_at outline.now).form)) }
@@ -32,16 +34,12 @@ fn pair_with(
 {
     let term = term_in(bank, history, outline.form)?;
     let variable = bank.name(outline.variable)?;
-    Ok(Replacement { variable, term })
+    Ok(Pair { variable, term })
 }
 
 /// The pair of a form. Any other form is one of the empty names.
 #[tactic(auto, using(nq_sexp::proofs::Trees::tree_rules))]
-fn pair_or_none(
-    bank: &mut Bank,
-    history: &History,
-    form: &Sexp<'_>,
-) -> Result<Replacement, EventFault>
+fn pair_or_none(bank: &mut Bank, history: &History, form: &Sexp<'_>) -> Result<Pair, EventFault>
     requires { HistoryStands bank.old history.now }
     ensures read { IfOk result (IsReadAs (PairStands bank.new) (pair_of bank.new) (term_refusal (arity_of (events_at bank.old history.now)) (value_or no_pair (pair_in (tree form.now))).form) (pair_given (events_at bank.old history.now) (value_or no_pair (pair_in (tree form.now))))) }
     ensures refused { IfErr result (IsToldOf (term_refusal (arity_of (events_at bank.old history.now)) (value_or no_pair (pair_in (tree form.now))).form)) }
@@ -61,11 +59,7 @@ fn pair_or_none(
 }
 
 /// The pairs of forms, in their order; or the first refusal of the term of one.
-fn pairs_in(
-    bank: &mut Bank,
-    history: &History,
-    forms: &[Sexp<'_>],
-) -> Result<Vec<Replacement>, EventFault>
+fn pairs_in(bank: &mut Bank, history: &History, forms: &[Sexp<'_>]) -> Result<Vec<Pair>, EventFault>
     requires { HistoryStands bank.old history.now }
     ensures read { IfOk result (IsReadAs (λ pairs. All (PairStands bank.new) pairs.items) (λ pairs. map (pair_of bank.new) pairs.items) (terms_refusal (arity_of (events_at bank.old history.now)) (pair_forms (pairs_at forms.now))) (map (pair_given (events_at bank.old history.now)) (pairs_at forms.now))) }
     ensures refused { IfErr result (IsToldOf (terms_refusal (arity_of (events_at bank.old history.now)) (pair_forms (pairs_at forms.now)))) }

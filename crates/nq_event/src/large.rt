@@ -7,19 +7,20 @@ ghost use Rattle.nq_language.specs.Limits.{is_too_large};
 ghost use Rattle.nq_language.specs.Refusals.{TooLarge};
 ghost use Rattle.nq_bank.specs.Content.{Content, Grows, IsNamed, IsIdOf, Stands, term_at, terms_at, text_at};
 ghost use Rattle.nq_bank.specs.Shells.{texts_at};
-ghost use Rattle.nq_clause.specs.Substitution.{substitution_at, PairStands as SubstitutionStands};
+ghost use Rattle.nq_clause.specs.Substitution.{PairStands};
 ghost use Rattle.nq_history.specs.Events.{event_at, events_at, EntryStands, HistoryStands};
 ghost use Rattle.nq_events.specs.Refusals.{OfLanguage};
 ghost use Rattle.nq_events.specs.HintRefusals.{cited_term, defining_equation, instance_term, instances_refusal, is_large_instance, term_named};
-ghost use Rattle.nq_event.specs.EventsAt.{instance_at, pair_at, InstanceStands, PairStands};
+ghost use Rattle.nq_history.specs.Hints.{InstanceStands};
+ghost use Rattle.nq_event.specs.EventsAt.{instance_at, pair_at};
 ghost use Rattle.nq_event.specs.Definitions.{definition_at, DefinitionStands};
 ghost use Rattle.nq_event.specs.Stated.{stated_term, StatedStands};
 
 use crate::definitions::Definition;
-use crate::event::{Instance, Replacement};
 use crate::replaced::{equation, replaced};
 use nq_bank::{Bank, BankFault, Sym, TermId};
-use nq_history::{Entry, EntryKind, History};
+use nq_clause::Pair;
+use nq_history::{Entry, EntryKind, History, Instance};
 use std::alloc::AllocError;
 
 /// Has a term more nodes than a term of an event may have, or is it deeper?
@@ -60,11 +61,7 @@ fn stated_by<'a>(entry: &'a Entry) -> Option<Stated<'a>>
 }
 
 /// The id of an instance of what is stated; `Deep` only where it is deeper than a bank allows.
-fn instance_id(
-    bank: &mut Bank,
-    pairs: &[Replacement],
-    stated: &Stated<'_>,
-) -> Result<TermId, BankFault>
+fn instance_id(bank: &mut Bank, pairs: &[Pair], stated: &Stated<'_>) -> Result<TermId, BankFault>
     requires pairs { All (PairStands bank.old) pairs.now }
     requires stated { StatedStands bank.old stated.now }
     ensures ok { IfOk result (λ r. IsIdOf bank.new r (substituted (map (pair_at bank.old) pairs.now) (stated_term bank.old stated.now))) }
@@ -78,11 +75,7 @@ fn instance_id(
 }
 
 /// Does an instance of what is stated pass the limits of a term?
-fn is_large_of(
-    bank: &mut Bank,
-    pairs: &[Replacement],
-    stated: &Stated<'_>,
-) -> Result<bool, AllocError>
+fn is_large_of(bank: &mut Bank, pairs: &[Pair], stated: &Stated<'_>) -> Result<bool, AllocError>
     requires pairs { All (PairStands bank.old) pairs.now }
     requires stated { StatedStands bank.old stated.now }
     ensures is { IfOk result (λ large. large ≡ is_too_large (substituted (map (pair_at bank.old) pairs.now) (stated_term bank.old stated.now))) }

@@ -61,7 +61,7 @@ mod history_events;
 mod outline;
 mod shell_events;
 
-pub use event::{Event, Hints, Instance, Measure, Replacement};
+pub use event::{Event, Measure};
 pub use fault::EventFault;
 pub use hints::{HintKind, HintOutline};
 pub use instances::{InstanceOutline, PairOutline};

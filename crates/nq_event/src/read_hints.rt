@@ -8,13 +8,13 @@ ghost use Rattle.nq_events.specs.WrittenHints.{hint_in};
 ghost use Rattle.nq_events.specs.TermRefusals.{arity_of, first, hints_forms, terms_refusal};
 ghost use Rattle.nq_events.specs.HintTerms.{hints_given};
 ghost use Rattle.nq_events.specs.Reading.{given_refusal};
-ghost use Rattle.nq_event.specs.EventsAt.{hints_at as hints_of, HintsStand};
+ghost use Rattle.nq_history.specs.Hints.{HintsStand};
+ghost use Rattle.nq_event.specs.EventsAt.{hints_at as hints_of};
 ghost use Rattle.nq_event.specs.Hints.{hint_at, hints_at, no_hint};
 ghost use Rattle.nq_event.specs.HintSums.{bad_hint, no_hints, AreHintsRead};
 ghost use Rattle.nq_event.specs.Reads.{value_or};
 ghost use Rattle.nq_event.specs.Readings.{IsReadAs, IsToldOf};
 
-use crate::event::Hints;
 use crate::fault::{EventFault, refused};
 use crate::hint_terms::add_hint;
 use crate::hint_words::stands_twice;
@@ -23,7 +23,7 @@ use crate::large::have_large;
 use crate::refusal::Refusal;
 use crate::terms::too_large;
 use nq_bank::Bank;
-use nq_history::History;
+use nq_history::{Hints, History};
 use nq_sexp::Sexp;
 use std::alloc::Global;
 

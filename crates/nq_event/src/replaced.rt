@@ -7,39 +7,23 @@ ghost use Rattle.nq_language.specs.Limits.{is_too_large};
 ghost use Rattle.nq_language.specs.Refusals.{TooLarge};
 ghost use Rattle.nq_bank.specs.Content.{Content, Grows, IsNamed, IsIdOf, Stands, term_at, terms_at, text_at};
 ghost use Rattle.nq_bank.specs.Shells.{texts_at};
-ghost use Rattle.nq_clause.specs.Substitution.{substitution_at, PairStands as SubstitutionStands};
+ghost use Rattle.nq_clause.specs.Substitution.{PairStands};
 ghost use Rattle.nq_history.specs.Events.{event_at, events_at, EntryStands, HistoryStands};
 ghost use Rattle.nq_events.specs.Refusals.{OfLanguage};
 ghost use Rattle.nq_events.specs.HintRefusals.{cited_term, defining_equation, instance_term, instances_refusal, is_large_instance, term_named};
-ghost use Rattle.nq_event.specs.EventsAt.{instance_at, pair_at, InstanceStands, PairStands};
+ghost use Rattle.nq_history.specs.Hints.{InstanceStands};
+ghost use Rattle.nq_event.specs.EventsAt.{instance_at, pair_at};
 ghost use Rattle.nq_event.specs.Definitions.{definition_at, DefinitionStands};
 ghost use Rattle.nq_event.specs.Stated.{stated_term, StatedStands};
 
 use crate::definitions::Definition;
-use crate::event::{Instance, Replacement};
 use nq_bank::{Bank, BankFault, Sym, TermId, ground, is_same_name};
 use nq_clause::{Pair, substitute};
-use nq_history::{Entry, EntryKind, History};
+use nq_history::{Entry, EntryKind, History, Instance};
 use std::alloc::{AllocError, Global};
 
-/// The pairs of a substitution.
-fn pairs_of(bank: &Bank, replacements: &[Replacement]) -> Result<Vec<Pair>, AllocError>
-    requires { All (PairStands bank.now) replacements.now }
-    ensures are { IfOk result (λ pairs. substitution_at bank.now pairs.items ≡ map (pair_at bank.now) replacements.now) }
-    ensures stand { IfOk result (λ pairs. All (SubstitutionStands bank.now) pairs.items) }
-{
-    let mut pairs = Vec::new(bank.alloc());
-    for replacement in replacements {
-        pairs.push(Pair {
-            variable: replacement.variable,
-            term: replacement.term,
-        })?;
-    }
-    Ok(pairs)
-}
-
 /// What stands in the place of a variable.
-fn value_of(bank: &mut Bank, pairs: &[Replacement], variable: Sym) -> Result<TermId, AllocError>
+fn value_of(bank: &mut Bank, pairs: &[Pair], variable: Sym) -> Result<TermId, AllocError>
     requires pairs { All (PairStands bank.old) pairs.now }
     requires variable { IsNamed bank.old variable }
     ensures value { IfOk result (λ t. IsIdOf bank.new t (value_at (map (pair_at bank.old) pairs.now) (text_at bank.old variable))) }
@@ -54,11 +38,7 @@ fn value_of(bank: &mut Bank, pairs: &[Replacement], variable: Sym) -> Result<Ter
 }
 
 /// What stands in the places of formals.
-fn values_of(
-    bank: &mut Bank,
-    pairs: &[Replacement],
-    formals: &[Sym],
-) -> Result<Vec<TermId>, AllocError>
+fn values_of(bank: &mut Bank, pairs: &[Pair], formals: &[Sym]) -> Result<Vec<TermId>, AllocError>
     requires pairs { All (PairStands bank.old) pairs.now }
     requires formals { All (IsNamed bank.old) formals.now }
     ensures stand { IfOk result (λ values. All (Stands bank.new) values.items) }
@@ -74,23 +54,20 @@ fn values_of(
 }
 
 /// The id of the term in which the pairs replace the variables; `Deep` only where it is deeper than a bank allows.
-pub fn replaced(bank: &mut Bank, pairs: &[Replacement], t: TermId) -> Result<TermId, BankFault>
+pub fn replaced(bank: &mut Bank, pairs: &[Pair], t: TermId) -> Result<TermId, BankFault>
     requires pairs { All (PairStands bank.old) pairs.now }
     requires term { Stands bank.old t }
     ensures ok { IfOk result (λ r. IsIdOf bank.new r (substituted (map (pair_at bank.old) pairs.now) (term_at bank.old t))) }
     ensures deep { result ≡ Err BankFault.Deep → depth_limit < depth_of (substituted (map (pair_at bank.old) pairs.now) (term_at bank.old t)) }
     ensures grows { Grows bank.old bank.new }
 {
-    match pairs_of(bank, pairs) {
-        Ok(substitution) => substitute(bank, t, substitution.as_slice()),
-        Err(_) => Err(BankFault::Memory),
-    }
+    substitute(bank, t, pairs)
 }
 
 /// The id of an instance of a defining equation; `Deep` only where it is deeper than a bank allows.
 pub fn equation(
     bank: &mut Bank,
-    pairs: &[Replacement],
+    pairs: &[Pair],
     definition: &Definition<'_>,
 ) -> Result<TermId, BankFault>
     requires pairs { All (PairStands bank.old) pairs.now }

@@ -6,3 +6,4 @@ pub mod LookupLemmas
 pub mod MarkingLemmas
 pub mod FunctionLemmas
 pub mod IndexLemmas
+pub mod UndoLemmas

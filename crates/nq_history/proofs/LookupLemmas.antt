@@ -207,7 +207,7 @@ kept_events bank e rest others true false same h = cc
 kept_events bank e rest others false true same h = cc
 kept_events bank e rest others false false same h = ap (λ es. event_at bank e ∷ es) h
 
-before_in : (bank : Content) (name : Sym) (entries : List Entry) → IsSound bank → IsNamed bank name → All (EntryStands bank) entries → all_events_at bank (entries_before name entries) ≡ before_event (text_at bank name) (all_events_at bank entries)
+pub before_in : (bank : Content) (name : Sym) (entries : List Entry) → IsSound bank → IsNamed bank name → All (EntryStands bank) entries → all_events_at bank (entries_before name entries) ≡ before_event (text_at bank name) (all_events_at bank entries)
 before_in bank name [] sound named h = refl
 before_in bank name (e ∷ entries) sound named h =
     kept_events bank e (entries_before name entries) (before_event (text_at bank name) (all_events_at bank entries)) (nat_eq name.0 e.name.0) (bytes_eq (text_at bank name) (event_name (event_at bank e)))

@@ -106,3 +106,23 @@ pub entry_at : (entries : List Entry) (i : ℕ) → i < length entries → (e : 
 entry_at [] i below = absurd (omega (arith, below))
 entry_at (e ∷ entries) zero below = (e, refl)
 entry_at (e ∷ entries) (suc i) below = entry_at entries i (omega (arith, below))
+
+-- a bank that held the entries, and is given back, marks them and holds them as before
+module _ (earlier bank : Content) (history : List Entry) (grew : Grows earlier bank) (held : All (IsWithin earlier) history) where
+  pub given_back_marked : AreMarked bank history → AreMarked earlier history
+  given_back_marked h =
+      record {
+        each = λ i f less is_f.
+            let here = h.each i f less is_f in
+            let within = held i f less in
+            let nodes : (get_or history i f).mark.nodes ≡ f.mark.nodes = ap (λ x. x.mark.nodes) (sym is_f) in
+            let names : (get_or history i f).mark.names ≡ f.mark.names = ap (λ x. x.mark.names) (sym is_f) in
+            let fewer_names : length here.earlier.names ≤ length earlier.names = omega (arith, names, within.names, here.mark.names) in
+            let fewer_terms : length here.earlier.terms ≤ length earlier.terms = omega (arith, nodes, within.nodes, here.mark.nodes) in
+            record { earlier = here.earlier; mark = here.mark; grew = between here.earlier earlier bank here.grew grew fewer_names fewer_terms; held = here.held };
+      }
+
+  pub given_back_stands : HistoryStands bank history → HistoryStands earlier history
+  given_back_stands stands =
+      let stand : All (EntryStands earlier) history = λ i d less. (held i d less).entry in
+      record { entries = stand; ground = ap (take ground_length) (sym (all_events_at-grown earlier bank grew history stand)) ∙ stands.ground }

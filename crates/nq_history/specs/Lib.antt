@@ -1,5 +1,6 @@
 pub mod Events
 pub mod Functions
 pub mod GroundTable
+pub mod Hints
 pub mod Lookups
 pub mod Marking

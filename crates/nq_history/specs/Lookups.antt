@@ -1,5 +1,9 @@
 -- What is looked for in a history.
-use Rattle.std.specs.Prelude.{◌≡◌, ℕ, ◌-◌, nat_eq, nat_lt, nat_le, not, Bool, true, false, bytes_eq, if◌then◌else◌, List, [], ◌∷◌, Option, Some, None, Result, Ok, Err}
+use Rattle.std.specs.Prelude.{◌≡◌, ℕ, ◌-◌, nat_eq, nat_lt, nat_le, not, Bool, true, false, bytes_eq, if◌then◌else◌, List, [], ◌∷◌, length, Option, Some, None, is_some, Result, Ok, Err}
+use Rattle.nq_logic.specs.Terms.{Name}
+use Rattle.nq_logic.specs.Histories.{History}
+use Rattle.nq_logic.specs.Ground.{ground_history}
+use Rattle.nq_logic.specs.Names.{before_event, event_in, looked_up}
 use Rattle.nq_bank.specs.declared.node.Sym.{Sym}
 use Rattle.nq_bank.specs.Content.{Content, text_at}
 use Rattle.nq_history.specs.declared.entry.Entry.{Entry}
@@ -67,3 +71,21 @@ undo_result None n = Ok n
 
 abbrev pub undo_answer : ℕ → ℕ → Result ℕ UndoFault
 undo_answer place count = undo_result (undo_fault place count) (count - place)
+
+-- an event past the ground history has this name, and it and the later ones are so many
+pub record IsUndoable (name : Name) (h : History) (n : ℕ) : Type 0 where
+  pub known : is_some (looked_up name h) ≡ true
+  pub event : is_some (event_in name h) ≡ true
+  pub past : is_some (event_in name ground_history) ≡ false
+  pub count : n ≡ length h - length (before_event name h)
+
+-- an event of the ground history has this name
+pub record IsGroundEvent (name : Name) (h : History) : Type 0 where
+  pub known : is_some (looked_up name h) ≡ true
+  pub ground : is_some (event_in name ground_history) ≡ true
+
+-- how many events an undo of this name takes away, or why it is refused
+abbrev pub IsUndo : Name → History → Result ℕ UndoFault → Type 0
+IsUndo name h (Ok n) = IsUndoable name h n
+IsUndo name h (Err NoSuchEvent) = is_some (looked_up name h) ≡ false
+IsUndo name h (Err GroundEvent) = IsGroundEvent name h

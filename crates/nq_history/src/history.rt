@@ -9,7 +9,7 @@ ghost use Rattle.nq_bank.specs.Content.{Content, Grows, Stands, IsNamed, text_at
 ghost use Rattle.nq_proof.specs.Rules.{event_term};
 ghost use Rattle.nq_history.specs.Events.{all_events_at, event_at, events_at, ground_length, past_ground, EntryStands, HistoryStands, kind_term};
 ghost use Rattle.nq_history.specs.Marking.{AreMarked, IsMarked};
-ghost use Rattle.nq_history.specs.Lookups.{enabled_in, entries_before, entry_named, push_fault, undo_answer, undo_fault, IsAnswer};
+ghost use Rattle.nq_history.specs.Lookups.{enabled_in, entries_before, entry_named, push_fault, undo_answer, undo_fault, IsAnswer, IsUndo};
 ghost use Rattle.nq_logic.specs.Ground.{ground_history, symbols_of};
 ghost use Rattle.nq_language.specs.Arities.{arity_in};
 ghost use Rattle.nq_history.specs.Functions.{arity_among, functions_of};
@@ -237,6 +237,20 @@ impl History {
         self.add(bank.alloc(), entry)
     }
 
+    /// How many events an undo of this name would take away, or why it would be refused. It takes no memory.
+    pub fn undo_count(&self, name: Sym) -> Result<u64, UndoFault>
+        ensures answer { result ≡ undo_answer (length (entries_before name self.now)) (length self.now) }
+
+        // Over each bank it is as the logic says of the name's text.
+        ensures events { (bank : Content) → IsSound bank → HistoryStands bank self.now → IsNamed bank name → IsUndo (text_at bank name) (events_at bank self.now) result }
+    {
+        let kept = count_before(self.entries.as_slice(), name);
+        match undo_fault(kept, self.entries.len()) {
+            Some(fault) => Err(fault),
+            None => Ok((self.entries.len() - kept) as u64),
+        }
+    }
+
     /// Undoes the first event of this name and all later ones, and answers how many these are. It is `NoSuchEvent` exactly
     /// where no event has the name, and `GroundEvent` exactly where the event is one of the ground history. It takes no
     /// memory. After a fault history and bank are as they were.
@@ -267,6 +281,22 @@ impl History {
                 self.undo_to(bank, kept);
                 Ok(undone as u64)
             }
+        }
+    }
+
+    /// Undoes all events past the ground history. It takes no memory.
+    pub fn back_to_ground(&mut self, bank: &mut Bank)
+        requires marked { AreMarked bank.old self.old }
+        requires stands { HistoryStands bank.old self.old }
+        ensures history { self.new ≡ take ground_length self.old }
+        ensures none { events_at bank.new self.new ≡ [] }
+
+        // The entries left stand in the bank that is left.
+        ensures stands_after { HistoryStands bank.new self.new }
+        ensures marked_after { AreMarked bank.new self.new }
+    {
+        if self.entries.len() > GROUND_LENGTH {
+            self.undo_to(bank, GROUND_LENGTH);
         }
     }
 

@@ -13,6 +13,9 @@ mod entry;
 mod ground_entries;
 mod ground_table;
 
+// what the hints of a lemma say
+mod hints;
+
 // names that are always in use, and what is looked for among entries
 mod lookup;
 mod reserved;
@@ -26,6 +29,7 @@ mod names;
 mod history;
 
 pub use entry::{Class, Entry, EntryKind};
+pub use hints::{Hints, Instance};
 pub use history::{EVENT_LIMIT, GROUND_LENGTH, History, PushFault, UndoFault};
 pub use reserved::is_reserved;
 

@@ -1,6 +1,7 @@
 pub mod Lines
 pub mod Meaning
 pub mod Over
+pub mod EventTerms
 pub mod Counting
 pub mod Steps
 pub mod Paths

@@ -27,13 +27,11 @@ mod prescription;
 // work that is counted
 mod work;
 
-// what provers are told, what they answer, and what they are
-mod hints;
+// what provers answer, and what they are
 mod prover;
 mod verdict;
 
 pub use counter::Counter;
-pub use hints::{Hints, Instance};
 pub use log::Log;
 use nq_arith::full_soundness;
 pub use prescription::Prescription;

@@ -1,29 +1,24 @@
-ghost use Rattle.std.specs.Prelude.{◌≡◌, List, Option, take, IfOk, OnOk, OnErr};
-ghost use Rattle.nq_logic.specs.Terms.{Term};
-ghost use Rattle.nq_logic.specs.Histories.{Event};
+ghost use Rattle.std.specs.Prelude.{List, take, IfOk, OnOk, OnErr};
 ghost use Rattle.nq_bank.specs.Content.{Stands, term_at};
 ghost use Rattle.nq_history.specs.declared.entry.Entry.{Entry};
 ghost use Rattle.nq_history.specs.Events.{events_at, HistoryStands};
-ghost use Rattle.nq_kernel.specs.declared.verdict.Quick.{Quick};
 ghost use Rattle.nq_kernel.specs.Growing.{WorkStands, WorkGrows};
-ghost use Rattle.nq_kernel.specs.Hints.{HintsStand, HintsAreIn};
+ghost use Rattle.nq_history.specs.Hints.{HintsStand};
+ghost use Rattle.nq_kernel.specs.Hints.{HintsAreIn};
 ghost use Rattle.nq_kernel.specs.Over.{TermIsIn};
-ghost use Rattle.nq_kernel.specs.Proving.{AllButLast, AtLeast, fragment_of, IsTold};
+ghost use Rattle.nq_kernel.specs.EventTerms.{HasSpelledTerms};
+ghost use Rattle.nq_kernel.specs.Proving.{AllButLast, AtLeast, IsFirstPass, IsTold};
 
-use crate::hints::Hints;
 use crate::verdict::Verdict;
 use crate::work::Work;
 use nq_bank::{Bank, TermId};
-use nq_history::History;
+use nq_history::{Hints, History};
 use std::alloc::AllocError;
 
 /// What proves lemmas in a history whose entries it has learnt.
 pub trait Prover {
     /// That it has learnt these entries, and nothing else.
     ghost has_learnt: { Self → List Entry → Type 0 };
-
-    /// The first of the fragments that hold a lemma of a history.
-    ghost first_fragment: { List Event → Term → Option Quick };
 
     /// Learns the last entry of a history, whose other entries it has learnt. After an error it has learnt what it had
     /// before.
@@ -39,8 +34,9 @@ pub trait Prover {
         ensures { (entries : List Entry) → has_learnt self.old entries → has_learnt self.new (take kept entries) };
 
     /// Proves a lemma. The line of a proof has only the lemma. A lemma is proved by a fragment exactly where it is in one,
-    /// and by the first that holds it, however many steps are left. Steps run out only where the counter is at its limit.
-    /// Whatever it answers, it has learnt what it had learnt.
+    /// and by the first that holds it, whatever the hints are and however many steps are left. Steps run out only where the
+    /// counter is at its limit. No line is dropped, and each new one is made by a rule of the history over the lines before
+    /// it. Whatever it answers, it has learnt what it had learnt.
     fn prove(
         &mut self,
         work: &mut Work,
@@ -52,10 +48,11 @@ pub trait Prover {
         requires learnt { has_learnt self.old history.now }
         requires goal { Stands work.old.bank goal }
         requires over { TermIsIn work.old.bank history.now goal }
+        requires spelled { HasSpelledTerms (events_at work.old.bank history.now) }
         requires hints { HintsStand work.old.bank hints.now }
         requires hint_terms { HintsAreIn work.old.bank history.now hints.now }
         ensures learnt { has_learnt self.new history.now }
         ensures grows { WorkGrows history.now work.old work.new }
         ensures told { IfOk result (λ v. IsTold work.new (term_at work.old.bank goal) v) }
-        ensures first { IfOk result (λ v. fragment_of v ≡ first_fragment (events_at work.old.bank history.now) (term_at work.old.bank goal)) };
+        ensures first { IfOk result (λ v. IsFirstPass (events_at work.old.bank history.now) (term_at work.old.bank goal) v) };
 }

@@ -1,4 +1,5 @@
-//! What a prover says of a lemma: a proof, a failure with the tree of its goals, or that steps ran out.
+//! What a prover says of a lemma: a proof, a failure with the tree of its goals, that steps ran out, or that it knows no way
+//! yet.
 use nq_bank::TermId;
 
 /// The fragments of the logic in which a lemma is proved without counting steps, in the order in which they are tried.
@@ -78,4 +79,6 @@ pub enum Verdict {
     Failed(Path, Cause),
     /// The counter is at its limit.
     OutOfSteps,
+    /// The prover knows no way yet past the goals of this tree.
+    NotYet(Path),
 }

@@ -1,5 +1,5 @@
 -- A log all of whose lines are built is right to the checker too. It goes with Stage, once all is built.
-use Rattle.std.specs.Prelude.{◌≡◌, Bool, true, ◌&&◌, List, [], Some}
+use Rattle.std.specs.Prelude.{◌≡◌, Bool, true, ◌&&◌, ◌||◌, List, [], Some, is_none}
 use Rattle.nq_logtext.specs.Lines.{Line, IsSpellable}
 use Rattle.nq_logtext.specs.declared.word.Word.TheVariants as word
 use Rattle.nq_logic.specs.Terms.{Each}
@@ -12,11 +12,12 @@ use Rattle.nq_log.specs.Stage.{is_built_word, is_built, built_step}
 abbrev pub IsBuilt : Line → Type 0
 IsBuilt line = is_built line ≡ true
 
--- whether the line is built that adds such an event; for a shell also the lines of its parts
+-- whether the line is built that adds such an event; for a shell also the lines of its parts, for a recursive definition also
+-- the lines of its function and its measure
 abbrev pub is_built_event : Event → Bool
 is_built_event (AddShell s) = is_built_word word.Shell && is_built_word word.Part
 is_built_event (Declaration f n) = is_built_word word.Dcl
-is_built_event (Defines d) = is_built_word word.Defn
+is_built_event (Defines d) = is_built_word word.Defn && (is_none d.measure || (is_built_word word.Function && is_built_word word.Measure))
 is_built_event (Axiom n classes t) = is_built_word word.Axiomatize
 is_built_event (Lemma n classes t) = is_built_word word.Lemma
 is_built_event (Toggle n old disabled) = is_built_word word.Toggle

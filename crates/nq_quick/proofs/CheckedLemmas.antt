@@ -1,8 +1,11 @@
 -- Terms that are found to be over the functions of a history.
-use Rattle.std.proofs.Common.{◌≡◌, ◌∷◌, [], ◌<◌, ℕ, Bool, true, false, Option, Some, List, suc, length, refl, ◌∙◌, sym, ap, subst, inl, inr}
+use Rattle.std.proofs.Common.{◌≡◌, ◌∷◌, [], ◌<◌, ℕ, Bool, true, false, Option, Some, List, zero, suc, length, refl, ◌∙◌, sym, ap, subst, inl, inr}
 use Rattle.std.specs.Prelude.{All, bytes_eq, if◌then◌else◌}
 use Rattle.nq_logic.specs.Terms.{Name, Symbol, Term, Function, Applied, applied, call, Takes, IsTerm, IsAmong, Each}
 use Rattle.nq_logic.specs.Ground.{symbols_of}
+use Rattle.nq_logic.specs.Histories.{History}
+use Rattle.nq_logic.specs.Words.{numeral}
+use Rattle.nq_logic.proofs.Symbols.{add1_symbol, zero_symbol}
 use Rattle.nq_language.specs.Arities.{arity_in}
 use Rattle.nq_bank.specs.declared.node.TermId.{TermId}
 use Rattle.nq_bank.specs.Content.{Content, term_at, terms_at}
@@ -53,3 +56,17 @@ call_in bank history t f n ids is arity count before in_before =
     let over : Each (IsOver symbols) (terms_at bank ids) = earlier_over bank history ids t.0 before in_before in
     let among : IsAmong (f, length (terms_at bank ids)) symbols = subst (λ m. IsAmong (f, m) symbols) (sym (terms_count bank ids ∙ count)) (arity_among symbols f n arity) in
     subst (IsOver symbols) (sym is) (record { over = applied_over symbols (Function f) (terms_at bank ids) among over; variables = applied_variables symbols (Function f) (terms_at bank ids) tt over })
+
+-- numerals are over the functions of each history
+numeral_over : (h : History) (n : ℕ) → IsTerm (symbols_of h) (numeral n)
+unfolding numeral
+numeral_over h zero = zero_symbol h
+numeral_over h (suc n) = (add1_symbol h, numeral_over h n)
+
+numeral_variables : (n : ℕ) → VariablesAre IsVariable (numeral n)
+unfolding numeral
+numeral_variables zero = tt
+numeral_variables (suc n) = (tt, numeral_variables n)
+
+pub numeral_in : (bank : Content) (history : List Entry) (t : TermId) (n : ℕ) → term_at bank t ≡ numeral n → TermIsIn bank history t
+numeral_in bank history t n is = subst (IsOver (symbols_of (events_at bank history))) (sym is) (record { over = numeral_over (events_at bank history) n; variables = numeral_variables n })

@@ -17,7 +17,7 @@ use Rattle.nq_kernel.specs.Growing.{WorkStands, WorkGrows, LineHolds}
 use Rattle.nq_quick.specs.declared.assignments.Assignment.{Assignment}
 use Rattle.nq_quick.specs.declared.heads.Head.TheVariants as head
 use Rattle.nq_quick.specs.declared.patterns.Case.{Case}
-use Rattle.nq_quick.specs.Propositions.{others_in}
+use Rattle.nq_fragments.specs.Propositions.{others_in}
 use Rattle.nq_quick.specs.Assignments.{truth_with}
 use Rattle.nq_quick.specs.Heads.{HasHead, joined_term}
 use Rattle.nq_quick.specs.Choices.{branch_of}

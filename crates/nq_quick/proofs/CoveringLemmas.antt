@@ -9,7 +9,7 @@ use Rattle.nq_proof.specs.Clauses.{Clause, has_term, same_term, without, distinc
 use Rattle.nq_proof.proofs.Tests.{distinct_in, same_true}
 use Rattle.nq_rule.proofs.LiteralLemmas.{true_same}
 use Rattle.nq_rule.proofs.ClauseLemmas.{has_term-push, same_term-sym}
-use Rattle.nq_quick.specs.Propositions.{Proposition, others_in}
+use Rattle.nq_fragments.specs.Propositions.{Proposition, others_in}
 use Rattle.nq_quick.specs.Lines.{denial}
 use Rattle.nq_quick.specs.Coverings.{AreDifferent, Covers}
 use Rattle.nq_quick.proofs.LineLemmas.{from_distinct}

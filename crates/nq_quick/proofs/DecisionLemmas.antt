@@ -21,12 +21,12 @@ use Rattle.nq_kernel.specs.declared.work.Work.{Work}
 use Rattle.nq_kernel.specs.Over.{TermIsIn}
 use Rattle.nq_kernel.specs.Growing.{WorkStands, WorkGrows}
 use Rattle.nq_quick.specs.declared.assignments.Assignment.{Assignment}
-use Rattle.nq_quick.specs.declared.heads.Connective.{Connective}
-use Rattle.nq_quick.specs.declared.heads.Connective.TheVariants.{And, Or, Implies, Iff}
+use Rattle.nq_fragments.specs.declared.connective.Connective.{Connective}
+use Rattle.nq_fragments.specs.declared.connective.Connective.TheVariants.{And, Or, Implies, Iff}
 use Rattle.nq_quick.specs.declared.heads.Head.{Head}
 use Rattle.nq_quick.specs.declared.heads.Head.TheVariants as head
 use Rattle.nq_quick.specs.declared.patterns.Case.{Case}
-use Rattle.nq_quick.specs.Propositions.{Proposition, Other, Choice, Denial, Joined, proposition_of, others_in, joined_truth}
+use Rattle.nq_fragments.specs.Propositions.{Proposition, Other, Choice, Denial, Joined, proposition_of, others_in, joined_truth}
 use Rattle.nq_quick.specs.Assignments.{truth_with}
 use Rattle.nq_quick.specs.Heads.{HasHead, StandsBefore, joined_term, proposition_at, term_of_head}
 use Rattle.nq_quick.specs.Choices.{branch_of}

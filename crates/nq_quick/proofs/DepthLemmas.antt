@@ -16,8 +16,8 @@ use Rattle.nq_kernel.specs.declared.work.Work.{Work}
 use Rattle.nq_kernel.specs.Lines.{ids_at}
 use Rattle.nq_kernel.specs.Growing.{WorkStands, LineHolds}
 use Rattle.nq_kernel.proofs.LogLemmas.{ids_stand}
-use Rattle.nq_quick.specs.declared.heads.Connective.{Connective}
-use Rattle.nq_quick.specs.declared.heads.Connective.TheVariants.{And, Or, Implies, Iff}
+use Rattle.nq_fragments.specs.declared.connective.Connective.{Connective}
+use Rattle.nq_fragments.specs.declared.connective.Connective.TheVariants.{And, Or, Implies, Iff}
 use Rattle.nq_quick.specs.Heads.{joined_term}
 use Rattle.nq_quick.specs.Lines.{HasOnly, IsShallow, signed, denial}
 

@@ -13,7 +13,7 @@ use Rattle.nq_kernel.specs.declared.work.Work.{Work}
 use Rattle.nq_kernel.specs.Growing.{WorkStands}
 use Rattle.nq_kernel.proofs.GrowingLemmas.{bank_grows, LineHolds-grown}
 use Rattle.nq_kernel.specs.Growing.{WorkGrows}
-use Rattle.nq_quick.specs.declared.heads.Connective.{Connective}
+use Rattle.nq_fragments.specs.declared.connective.Connective.{Connective}
 use Rattle.nq_quick.specs.declared.patterns.Pattern.{Pattern}
 use Rattle.nq_quick.specs.declared.patterns.Opening.{Opening}
 use Rattle.nq_quick.specs.Heads.{joined_term}

@@ -7,10 +7,10 @@ use Rattle.nq_bank.specs.declared.node.TermId.{TermId}
 use Rattle.nq_bank.specs.Content.{Content, term_at, terms_at}
 use Rattle.nq_bank.proofs.Texts.{bytes_eq-true}
 use Rattle.nq_rule.specs.declared.branching.Branches.{Branches}
-use Rattle.nq_quick.specs.declared.heads.Connective.{Connective}
-use Rattle.nq_quick.specs.declared.heads.Connective.TheVariants.{And, Or, Implies, Iff}
+use Rattle.nq_fragments.specs.declared.connective.Connective.{Connective}
+use Rattle.nq_fragments.specs.declared.connective.Connective.TheVariants.{And, Or, Implies, Iff}
 use Rattle.nq_quick.specs.declared.heads.Head.TheVariants as head
-use Rattle.nq_quick.specs.Propositions.{Proposition, Other, Truth, Falsity, Choice, Denial, proposition_of, connective_of, joined_by}
+use Rattle.nq_fragments.specs.Propositions.{Proposition, Other, Truth, Falsity, Choice, Denial, proposition_of, connective_of, joined_by}
 use Rattle.nq_quick.specs.Heads.{HasHead, joined_term}
 
 -- the name of a connective makes the joined term

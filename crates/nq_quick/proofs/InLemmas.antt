@@ -19,9 +19,9 @@ use Rattle.nq_history.proofs.HistoryLemmas.{events_at-grown, history_grown}
 use Rattle.nq_rule.specs.declared.branching.Branches.{Branches}
 use Rattle.nq_kernel.specs.declared.rule.Rule.TheVariants.{Taut, Instance}
 use Rattle.nq_kernel.specs.Over.{IsVariable, IsTermOf, RuleIsOver, TermIsIn, RuleIsIn}
-use Rattle.nq_quick.specs.declared.heads.Connective.{Connective}
-use Rattle.nq_quick.specs.declared.heads.Connective.TheVariants.{And, Or, Implies, Iff}
-use Rattle.nq_quick.specs.Propositions.{Other, Truth, Falsity, Choice, Denial, proposition_of, connective_of, joined_by, others_in}
+use Rattle.nq_fragments.specs.declared.connective.Connective.{Connective}
+use Rattle.nq_fragments.specs.declared.connective.Connective.TheVariants.{And, Or, Implies, Iff}
+use Rattle.nq_fragments.specs.Propositions.{Other, Truth, Falsity, Choice, Denial, proposition_of, connective_of, joined_by, others_in}
 use Rattle.nq_quick.specs.Heads.{joined_term}
 use Rattle.nq_quick.specs.Choices.{branch_of}
 use Rattle.nq_quick.specs.Lines.{definition_of, if_at}

@@ -17,8 +17,8 @@ use Rattle.nq_history.specs.declared.entry.Entry.{Entry}
 use Rattle.nq_kernel.specs.declared.work.Work.{Work}
 use Rattle.nq_kernel.specs.declared.rule.Rule.TheVariants.{Instance}
 use Rattle.nq_kernel.specs.Meaning.{conclusion_at, clause_at}
-use Rattle.nq_quick.specs.declared.heads.Connective.{Connective}
-use Rattle.nq_quick.specs.declared.heads.Connective.TheVariants.{And, Or, Implies, Iff}
+use Rattle.nq_fragments.specs.declared.connective.Connective.{Connective}
+use Rattle.nq_fragments.specs.declared.connective.Connective.TheVariants.{And, Or, Implies, Iff}
 use Rattle.nq_quick.specs.declared.patterns.Case.{Case}
 use Rattle.nq_quick.specs.Heads.{joined_term}
 use Rattle.nq_quick.specs.Lines.{AreAmong, HasOnly, LineHasOnly, IsShallow, signed, denial}

@@ -15,3 +15,7 @@ pub mod ClosingLemmas
 pub mod OtherLemmas
 pub mod CoveringLemmas
 pub mod ProvingLemmas
+pub mod EarlierLemmas
+pub mod EventLemmas
+pub mod SpelledLemmas
+pub mod FirstPassLemmas

@@ -5,10 +5,10 @@ use Rattle.nq_logic.specs.Terms.{Term, Variable, Function, Applied, IsAmong}
 use Rattle.nq_logic.specs.Sizes.{depth_of}
 use Rattle.nq_logic.specs.Words.{not_term, if_term}
 use Rattle.nq_bank.proofs.Texts.{bytes_eq-true}
-use Rattle.nq_quick.specs.declared.heads.Connective.{Connective}
-use Rattle.nq_quick.specs.Propositions.{Proposition, Other, Truth, Falsity, Choice, Denial, proposition_of, connective_of, joined_by, others_in, truth_of}
+use Rattle.nq_fragments.specs.declared.connective.Connective.{Connective}
+use Rattle.nq_fragments.specs.Propositions.{Proposition, Other, Truth, Falsity, Choice, Denial, proposition_of, connective_of, joined_by, others_in, truth_of}
 use Rattle.nq_quick.specs.Heads.{joined_term}
-use Rattle.nq_quick.specs.Tautologies.{IsSmallTautology}
+use Rattle.nq_fragments.specs.Tautologies.{IsSmallTautology}
 use Rattle.nq_quick.proofs.HeadLemmas.{named_term}
 use Rattle.nq_quick.proofs.LineLemmas.{among_either}
 use Rattle.nq_quick.proofs.DepthLemmas.{under_not_shallower, test_shallower, first_shallower, second_shallower, left_shallower, right_shallower}

@@ -23,8 +23,8 @@ use Rattle.nq_kernel.specs.declared.work.Work.{Work}
 use Rattle.nq_kernel.specs.declared.rule.Rule.TheVariants.{Replace}
 use Rattle.nq_kernel.specs.Meaning.{conclusion_at, clause_at}
 use Rattle.nq_kernel.specs.Growing.{LineHolds}
-use Rattle.nq_quick.specs.declared.heads.Connective.{Connective}
-use Rattle.nq_quick.specs.declared.heads.Connective.TheVariants.{And, Or, Implies, Iff}
+use Rattle.nq_fragments.specs.declared.connective.Connective.{Connective}
+use Rattle.nq_fragments.specs.declared.connective.Connective.TheVariants.{And, Or, Implies, Iff}
 use Rattle.nq_quick.specs.Lines.{AreAmong, HasOnly, IsShallow, signed, denial, definition_of}
 use Rattle.nq_quick.specs.Patterns.{pattern_term}
 use Rattle.nq_quick.proofs.DepthLemmas.{among_each, only_shallow}

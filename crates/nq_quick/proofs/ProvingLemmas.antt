@@ -16,8 +16,8 @@ use Rattle.std.proofs.lemmas.List.{map_push}
 use Rattle.nq_kernel.specs.declared.work.Work.{Work}
 use Rattle.nq_quick.specs.declared.assignments.Assignment.{Assignment}
 use Rattle.nq_quick.specs.Answers.{IsTautologyOver}
-use Rattle.nq_quick.specs.Propositions.{Proposition, proposition_of, others_in}
-use Rattle.nq_quick.specs.Tautologies.{IsSmallTautology}
+use Rattle.nq_fragments.specs.Propositions.{Proposition, proposition_of, others_in}
+use Rattle.nq_fragments.specs.Tautologies.{IsSmallTautology}
 use Rattle.nq_quick.specs.Lines.{LineHasOnly}
 use Rattle.nq_quick.specs.Decisions.{AssignmentStands, IsInHistory, CanDecide, trues_at, denials_at, truth_at}
 use Rattle.nq_quick.specs.Coverings.{Covers, CanProve}

@@ -15,8 +15,8 @@ use Rattle.nq_history.specs.Events.{events_at}
 use Rattle.nq_kernel.specs.declared.work.Work.{Work}
 use Rattle.nq_kernel.specs.declared.rule.Rule.TheVariants.{AxiomRow}
 use Rattle.nq_kernel.specs.Meaning.{conclusion_at, clause_at}
-use Rattle.nq_quick.specs.declared.heads.Connective.{Connective}
-use Rattle.nq_quick.specs.declared.heads.Connective.TheVariants.{And, Or, Implies, Iff}
+use Rattle.nq_fragments.specs.declared.connective.Connective.{Connective}
+use Rattle.nq_fragments.specs.declared.connective.Connective.TheVariants.{And, Or, Implies, Iff}
 use Rattle.nq_quick.specs.Lines.{IsShallow, definition_of}
 use Rattle.nq_quick.proofs.DepthLemmas.{each_shallow, truth_shallow, falsity_shallow}
 

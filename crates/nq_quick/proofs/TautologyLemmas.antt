@@ -11,9 +11,9 @@ use Rattle.nq_rule.proofs.LiteralLemmas.{true_same}
 use Rattle.nq_rule.proofs.ClauseLemmas.{has_term-push}
 use Rattle.nq_bank.specs.declared.node.TermId.{TermId}
 use Rattle.nq_bank.specs.Content.{Content, term_at, terms_at}
-use Rattle.nq_quick.specs.Propositions.{Proposition, Other, Truth, Falsity, Choice, Denial, Joined, proposition_of, others_in, nodes_in, truth_of, joined_truth}
+use Rattle.nq_fragments.specs.Propositions.{Proposition, Other, Truth, Falsity, Choice, Denial, Joined, proposition_of, others_in, nodes_in, truth_of, joined_truth}
 use Rattle.nq_quick.specs.Assignments.{truth_with, true_in_all}
-use Rattle.nq_quick.specs.Tautologies.{IsSmallTautology, node_limit, other_limit}
+use Rattle.nq_fragments.specs.Tautologies.{IsSmallTautology, node_limit, other_limit}
 use Rattle.nq_quick.specs.Answers.{AreOthers}
 
 both_true : (a b : Bool) → a ≡ true → b ≡ true → (a && b) ≡ true

@@ -2,7 +2,7 @@
 use Rattle.std.specs.Prelude.{Bool, ◌&&◌, List, [], ◌∷◌, ◌++◌}
 use Rattle.nq_logic.specs.Terms.{Term}
 use Rattle.nq_proof.specs.Clauses.{has_term}
-use Rattle.nq_quick.specs.Propositions.{Proposition, truth_of}
+use Rattle.nq_fragments.specs.Propositions.{Proposition, truth_of}
 
 -- the truth of a proposition where just these of the other terms are true
 abbrev pub truth_with : List Term → Proposition → Bool

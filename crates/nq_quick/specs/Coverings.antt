@@ -7,8 +7,8 @@ use Rattle.nq_bank.specs.declared.node.TermId.{TermId}
 use Rattle.nq_bank.specs.Content.{Content, Stands, term_at, terms_at}
 use Rattle.nq_history.specs.declared.entry.Entry.{Entry}
 use Rattle.nq_quick.specs.declared.assignments.Assignment.{Assignment}
-use Rattle.nq_quick.specs.Propositions.{Proposition, proposition_of, others_in}
-use Rattle.nq_quick.specs.Tautologies.{IsSmallTautology}
+use Rattle.nq_fragments.specs.Propositions.{Proposition, proposition_of, others_in}
+use Rattle.nq_fragments.specs.Tautologies.{IsSmallTautology}
 use Rattle.nq_quick.specs.Lines.{denial}
 use Rattle.nq_quick.specs.Decisions.{AssignmentStands, IsInHistory, trues_at, denials_at}
 

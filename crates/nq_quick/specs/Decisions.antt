@@ -15,7 +15,7 @@ use Rattle.nq_quick.specs.declared.heads.Head.TheVariants as head
 use Rattle.nq_quick.specs.declared.patterns.Case.{Case}
 use Rattle.nq_quick.specs.Heads.{HasHead, joined_term}
 use Rattle.nq_quick.specs.Patterns.{case_truth}
-use Rattle.nq_quick.specs.Propositions.{Proposition, Other, Truth, Falsity, Choice, Denial, Joined, proposition_of, others_in}
+use Rattle.nq_fragments.specs.Propositions.{Proposition, Other, Truth, Falsity, Choice, Denial, Joined, proposition_of, others_in}
 use Rattle.nq_quick.specs.Assignments.{truth_with}
 use Rattle.nq_quick.specs.Lines.{Says, denial}
 

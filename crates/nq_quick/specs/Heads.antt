@@ -4,11 +4,11 @@ use Rattle.nq_logic.specs.Terms.{Term}
 use Rattle.nq_logic.specs.Words.{true_term, false_term, if_term, not_term, and_term, or_term, implies_term, iff_term}
 use Rattle.nq_bank.specs.declared.node.TermId.{TermId}
 use Rattle.nq_bank.specs.Content.{Content, term_at}
-use Rattle.nq_quick.specs.declared.heads.Connective.{Connective}
-use Rattle.nq_quick.specs.declared.heads.Connective.TheVariants.{And, Or, Implies, Iff}
+use Rattle.nq_fragments.specs.declared.connective.Connective.{Connective}
+use Rattle.nq_fragments.specs.declared.connective.Connective.TheVariants.{And, Or, Implies, Iff}
 use Rattle.nq_quick.specs.declared.heads.Head.{Head}
 use Rattle.nq_quick.specs.declared.heads.Head.TheVariants as head
-use Rattle.nq_quick.specs.Propositions.{Proposition, Other, Truth, Falsity, Choice, Denial, Joined, proposition_of}
+use Rattle.nq_fragments.specs.Propositions.{Proposition, Other, Truth, Falsity, Choice, Denial, Joined, proposition_of}
 
 -- two terms joined
 abbrev pub joined_term : Connective → Term → Term → Term

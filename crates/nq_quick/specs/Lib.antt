@@ -1,10 +1,9 @@
-pub mod Propositions
 pub mod Assignments
 pub mod Heads
-pub mod Tautologies
 pub mod Lines
 pub mod Choices
 pub mod Patterns
 pub mod Decisions
 pub mod Coverings
+pub mod Earlier
 pub mod Answers

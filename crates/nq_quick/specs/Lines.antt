@@ -9,8 +9,8 @@ use Rattle.nq_bank.specs.Content.{Content, term_at, terms_at}
 use Rattle.nq_history.specs.declared.entry.Entry.{Entry}
 use Rattle.nq_rule.specs.declared.branching.Branches.{Branches}
 use Rattle.nq_rule.specs.Conclusions.{IsDeep}
-use Rattle.nq_quick.specs.declared.heads.Connective.{Connective}
-use Rattle.nq_quick.specs.declared.heads.Connective.TheVariants.{And, Or, Implies, Iff}
+use Rattle.nq_fragments.specs.declared.connective.Connective.{Connective}
+use Rattle.nq_fragments.specs.declared.connective.Connective.TheVariants.{And, Or, Implies, Iff}
 use Rattle.nq_proof.specs.Clauses.{Clause}
 use Rattle.nq_kernel.specs.declared.work.Work.{Work}
 use Rattle.nq_kernel.specs.Meaning.{clause_at}

@@ -7,12 +7,12 @@ use Rattle.nq_proof.specs.Rows.{opening}
 use Rattle.nq_bank.specs.Content.{Content, Stands, NamesText, IsIdOf}
 use Rattle.nq_kernel.specs.declared.work.Work.{Work}
 use Rattle.nq_kernel.specs.Growing.{LineHolds}
-use Rattle.nq_quick.specs.declared.heads.Connective.{Connective}
+use Rattle.nq_fragments.specs.declared.connective.Connective.{Connective}
 use Rattle.nq_clause.specs.declared.substitution.Pair.{Pair}
 use Rattle.nq_quick.specs.declared.patterns.Case.{Case}
 use Rattle.nq_quick.specs.declared.patterns.Pattern.{Pattern}
 use Rattle.nq_quick.specs.declared.patterns.Opening.{Opening}
-use Rattle.nq_quick.specs.Propositions.{joined_truth}
+use Rattle.nq_fragments.specs.Propositions.{joined_truth}
 use Rattle.nq_quick.specs.Heads.{joined_term}
 use Rattle.nq_quick.specs.Lines.{signed, denial, definition_of}
 

@@ -7,11 +7,11 @@ ghost use Rattle.nq_quick.specs.Decisions.{AssignmentStands, IsCaseAssignment, t
 ghost use Rattle.nq_quick.specs.Lines.{GrowsUncounted, denial};
 ghost use Rattle.nq_quick.specs.Patterns.{IsPattern};
 
-use crate::heads::Connective;
 use crate::lines::denial_of;
 use crate::patterns::{Case, Pattern};
 use crate::truth::is_true;
 use nq_bank::{Bank, TermId};
+use nq_fragments::Connective;
 use nq_history::History;
 use nq_kernel::Work;
 use std::alloc::{AllocError, Global};

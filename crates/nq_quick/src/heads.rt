@@ -2,20 +2,12 @@
 ghost use Rattle.std.specs.Prelude.{◌≡◌, ◌<◌, ◌∷◌, [], All};
 ghost use Rattle.nq_logic.specs.Terms.{call};
 ghost use Rattle.nq_bank.specs.Content.{Stands, IsNamed, text_at, term_at, terms_at};
-ghost use Rattle.nq_quick.specs.Propositions.{connective_of};
+ghost use Rattle.nq_fragments.specs.Propositions.{connective_of};
 ghost use Rattle.nq_quick.specs.Heads.{HasHead};
 
 use nq_bank::{Bank, Node, Sym, TermId, ground};
+use nq_fragments::Connective;
 use nq_rule::Branches;
-
-/// A function that joins two propositions.
-#[derive(Clone, Copy, Debug, PartialEq, Eq)]
-pub enum Connective {
-    And,
-    Or,
-    Implies,
-    Iff,
-}
 
 /// What stands at the head of a proposition.
 #[derive(Clone, Copy, Debug, PartialEq, Eq)]

@@ -7,6 +7,9 @@
 //! that holds no more than it may is used again in other ways, and a way that doesn't matter isn't taken. So a goal takes
 //! between a few lines and, at most, three for each node in each way: 2,900 for the parity of eight terms in two orders, which
 //! needs all 256 ways.
+//!
+//! A goal that is no such tautology is matched with the axioms and lemmas of the history, oldest first. Where it is an instance
+//! of one of them, two lines prove it: the term of the axiom or lemma, and its instance.
 #![tactic(auto)]
 
 // what stands at the head of a term
@@ -49,13 +52,17 @@ mod decisions;
 // lines of tautologies
 mod proving;
 
-// the first pass itself
+// which axiom or lemma a goal is an instance of, and the lines of the instance
+mod earlier;
+mod instance_lines;
+
+// the first pass itself, and as a prover
 mod first_pass;
-mod fragments;
+mod first_pass_prover;
 
 pub use first_pass::quick;
-pub use fragments::Quick;
-pub use heads::{Connective, Head};
+pub use first_pass_prover::FirstPass;
+pub use heads::Head;
 pub use tautology::{is_small_tautology, small_tautology};
 
 #[cfg(test)]

@@ -1,7 +1,7 @@
 //! How many nodes of a proposition are IF, NOT, AND, OR, IMPLIES, IFF, T or F.
 ghost use Rattle.std.specs.Prelude.{◌≡◌, ◌+◌, ◌<◌, MatchOption};
 ghost use Rattle.nq_bank.specs.Content.{Stands, term_at};
-ghost use Rattle.nq_quick.specs.Propositions.{proposition_of, nodes_in};
+ghost use Rattle.nq_fragments.specs.Propositions.{proposition_of, nodes_in};
 
 use crate::heads::{Head, head_of};
 use nq_bank::{Bank, TermId};

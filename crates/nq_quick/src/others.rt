@@ -2,7 +2,7 @@
 ghost use Rattle.std.specs.Prelude.{◌≡◌, ◌++◌, ◌∷◌, [], All, IfOk, OnOk, if◌then◌else◌};
 ghost use Rattle.nq_bank.specs.Content.{Stands, term_at, terms_at};
 ghost use Rattle.nq_proof.specs.Clauses.{distinct};
-ghost use Rattle.nq_quick.specs.Propositions.{proposition_of, others_in};
+ghost use Rattle.nq_fragments.specs.Propositions.{proposition_of, others_in};
 ghost use Rattle.nq_quick.specs.Answers.{AreOthers};
 
 use crate::heads::{Head, head_of};

@@ -11,10 +11,10 @@ ghost use Rattle.nq_kernel.specs.Growing.{WorkStands, LineHolds};
 ghost use Rattle.nq_quick.specs.Lines.{GrowsUncounted, LineHasOnly, signed, denial, definition_of};
 ghost use Rattle.nq_quick.specs.Patterns.{pattern_term, IsPattern, IsOpening};
 
-use crate::heads::Connective;
 use crate::lines::{add_cut, add_either, add_line, ground_call};
 use crate::rows::{add_opening, name_of};
 use nq_bank::{Sym, TermId};
+use nq_fragments::Connective;
 use nq_history::History;
 use nq_kernel::{Rule, Work};
 use nq_rule::Side;

@@ -7,9 +7,9 @@ ghost use Rattle.nq_proof.specs.Rows.{opening};
 ghost use Rattle.nq_kernel.specs.Growing.{WorkStands, LineHolds};
 ghost use Rattle.nq_quick.specs.Lines.{GrowsUncounted, definition_of};
 
-use crate::heads::Connective;
 use crate::lines::add_line;
 use nq_bank::{Sym, ground, ground_name};
+use nq_fragments::Connective;
 use nq_history::History;
 use nq_kernel::{Rule, Work};
 use std::alloc::AllocError;

@@ -1,10 +1,10 @@
 //! Which goals are small tautologies.
 ghost use Rattle.std.specs.Prelude.{◌≡◌, ◌++◌, ◌∷◌, [], ◌↔◌, ◌≤◌, All, IfOk, IsTrue};
 ghost use Rattle.nq_bank.specs.Content.{Stands, term_at, terms_at};
-ghost use Rattle.nq_quick.specs.Propositions.{proposition_of, nodes_in};
+ghost use Rattle.nq_fragments.specs.Propositions.{proposition_of, nodes_in};
 ghost use Rattle.nq_quick.specs.Assignments.{true_in_all};
 ghost use Rattle.nq_quick.specs.Answers.{AreOthers, IsAnswer};
-ghost use Rattle.nq_quick.specs.Tautologies.{IsSmallTautology, node_limit};
+ghost use Rattle.nq_fragments.specs.Tautologies.{IsSmallTautology, node_limit};
 
 use crate::nodes::nodes_left;
 use crate::others::others_of;

@@ -2,13 +2,16 @@ ghost use Rattle.std.specs.Prelude.{◌≡◌, ◌<◌, ◌≤◌, ◌∷◌, []
 ghost use Rattle.nq_bank.specs.GroundNames.{ground_count};
 ghost use Rattle.nq_bank.specs.declared.node.TermId.{TermId};
 ghost use Rattle.nq_bank.specs.Content.{Stands};
-ghost use Rattle.nq_history.specs.Events.{HistoryStands};
+ghost use Rattle.nq_history.specs.Events.{events_at, HistoryStands};
 ghost use Rattle.nq_kernel.specs.Over.{IsVariable, TermIsIn};
+ghost use Rattle.nq_kernel.specs.EventTerms.{HasSpelledTerms};
+
+mod instances;
 
 use super::*;
 use nq_bank::{Bank, Node, Sym, TermId, ground, ground_name};
 use nq_history::History;
-use nq_kernel::{Log, Work};
+use nq_kernel::{Log, Quick, Work};
 use std::alloc::{AllocError, Global};
 use std::process::Abort;
 use std::test::Fail;
@@ -58,7 +61,7 @@ fn is_in_after(bank: &Bank, history: &History, t: TermId) -> bool
             None => false,
         },
         Node::Var(s) => is_variable(bank.text(s)),
-        Node::Num(_) => false,
+        Node::Num(_) => true,
     }
 }
 
@@ -99,6 +102,8 @@ fn function_of(byte: u8) -> Option<Sym>
         b'0' => Some(ground::FALSE),
         b'!' => Some(ground::NOT),
         b'$' => Some(ground::CAR),
+        b'+' => Some(ground::ADD1),
+        b'~' => Some(ground::EQUAL),
         b'&' => Some(ground::AND),
         b'|' => Some(ground::OR),
         b'>' => Some(ground::IMPLIES),
@@ -111,8 +116,8 @@ fn function_of(byte: u8) -> Option<Sym>
 /// How many arguments the function has that a byte stands for.
 fn count_of(byte: u8) -> usize {
     match byte {
-        b'!' | b'$' => 1,
-        b'&' | b'|' | b'>' | b'=' => 2,
+        b'!' | b'$' | b'+' => 1,
+        b'&' | b'|' | b'>' | b'=' | b'~' => 2,
         b'?' => 3,
         _ => 0,
     }
@@ -136,7 +141,8 @@ fn take_last(
     Ok(taken)
 }
 
-/// Makes the term that is written with a byte for each function, before its arguments, and for each variable.
+/// Makes the term that is written with a byte for each function, before its arguments, for each variable, and for each numeral
+/// from 2 to 9.
 fn term(rt: &impl Abort, bank: &mut Bank, text: &[u8]) -> Result<TermId, Fail> {
     let mut made = Vec::new(bank.alloc());
     for byte in text.iter().rev() {
@@ -156,6 +162,9 @@ fn made_of(
     byte: u8,
     arguments: &[TermId],
 ) -> Result<TermId, Fail> {
+    if byte >= b'2' && byte <= b'9' {
+        return Ok(bank.num((byte - b'0') as u128)?);
+    }
     match function_of(byte) {
         Some(f) => {
             assert!(rt; all_stand(bank, arguments));
@@ -169,15 +178,23 @@ fn made_of(
     }
 }
 
-/// How many lines the first pass adds for a goal that it proves; none where it doesn't prove it.
-fn lines_for(rt: &impl Abort, mut bank: Bank, goal: TermId) -> Result<Option<u64>, Fail> {
-    let made = bank.len();
-    let history = History::ground(&mut bank)?;
+/// The way in which the first pass proves a goal that is one of the first terms of the bank, and how many lines it adds; none
+/// where it doesn't prove it.
+fn proof_in(
+    rt: &impl Abort,
+    bank: Bank,
+    history: &History,
+    made: u64,
+    goal: TermId,
+) -> Result<Option<(Quick, u64)>, Fail>
+    requires stands { HistoryStands bank history.now }
+    requires spelled { HasSpelledTerms (events_at bank history.now) }
+{
     let log = Log::new(bank.alloc());
     let mut work = Work::new(bank, log, 1);
     assert!(rt; stands(&work.bank, goal));
-    assert!(rt; is_in(&work.bank, &history, made, goal));
-    let answer = quick(&mut work, &history, goal)?;
+    assert!(rt; is_in(&work.bank, history, made, goal));
+    let answer = quick(&mut work, history, goal)?;
     assert!(rt; work.counter.used() == 0);
     match answer {
         None => {
@@ -185,9 +202,21 @@ fn lines_for(rt: &impl Abort, mut bank: Bank, goal: TermId) -> Result<Option<u64
             Ok(None)
         }
         Some((way, line)) => {
-            assert!(rt; way == Quick::Taut);
             assert!(rt; work.log.cited(line) == Some(&[goal][..]));
-            Ok(Some(work.log.len()))
+            Ok(Some((way, work.log.len())))
+        }
+    }
+}
+
+/// How many lines the first pass adds for a goal that it proves in the ground history, by TAUT; none where it doesn't prove it.
+fn lines_for(rt: &impl Abort, mut bank: Bank, goal: TermId) -> Result<Option<u64>, Fail> {
+    let made = bank.len();
+    let history = History::ground(&mut bank)?;
+    match proof_in(rt, bank, &history, made, goal)? {
+        None => Ok(None),
+        Some((way, lines)) => {
+            assert!(rt; way == Quick::Taut);
+            Ok(Some(lines))
         }
     }
 }

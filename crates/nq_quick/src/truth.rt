@@ -3,13 +3,14 @@ ghost use Rattle.std.specs.Prelude.{◌≡◌, ◌||◌, ◌&&◌, All, IfOk, On
 ghost use Rattle.nq_logic.specs.Shapes.{chosen};
 ghost use Rattle.nq_bank.specs.Content.{Stands, term_at, terms_at};
 ghost use Rattle.nq_proof.specs.Clauses.{same_term, has_term};
-ghost use Rattle.nq_quick.specs.Propositions.{proposition_of, joined_truth};
+ghost use Rattle.nq_fragments.specs.Propositions.{proposition_of, joined_truth};
 ghost use Rattle.nq_quick.specs.Assignments.{truth_with};
 ghost use Rattle.nq_quick.specs.Patterns.{case_truth};
 
-use crate::heads::{Connective, Head, head_of};
+use crate::heads::{Head, head_of};
 use crate::patterns::Case;
 use nq_bank::{Bank, TermId};
+use nq_fragments::Connective;
 use std::alloc::AllocError;
 
 fn is_same(bank: &Bank, left: TermId, right: TermId) -> bool

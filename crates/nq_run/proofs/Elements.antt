@@ -6,7 +6,7 @@ use Rattle.nq_sexp.specs.Tree.{tree, trees, tail_of}
 use Rattle.nq_sexp.specs.declared.Sexp.{Sexp}
 use Rattle.nq_sexp.specs.declared.Sexp.TheVariants.{List as list_form}
 use Rattle.nq_sexp.proofs.Trees.{tree-List}
-use Rattle.nq_run.specs.Headers.{front_elements, undotted}
+use Rattle.nq_answers.specs.Headers.{front_elements, undotted}
 
 undotted-trees : (items : List Sexp) (rest : Forms) → undotted rest ≡ [] → undotted (trees items rest) ≡ map tree items
 undotted-trees [] rest none = none

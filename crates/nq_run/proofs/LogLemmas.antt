@@ -14,13 +14,13 @@ use Rattle.nq_block.specs.Blocks.{IsBlock}
 use Rattle.nq_block.specs.OpenLogs.{IsOpenLog}
 use Rattle.nq_block.proofs.OpenLaws.{block_follows_law}
 use Rattle.nq_comment.specs.Reports.{Answer, Report}
-use Rattle.nq_run.specs.Claims.{claims_at, claims_from, claims_of, event_claims}
+use Rattle.nq_answers.specs.Claims.{claims_at, claims_from, claims_of, event_claims}
 use Rattle.nq_events.specs.Events.{Event, BootStrap, AddShell, Dcl, Defn, AddAxiom, ProveLemma, Toggle, Undo, Skipped}
 use Rattle.nq_events.specs.Reading.{event_of}
 use Rattle.nq_events.specs.Effects.{defined, history_after}
 use Rattle.nq_run.specs.Outcome.{Answered, AreBlocks, GrowsWithin, IsLogOf, Logs, LogsWithin}
 use Rattle.nq_spelling.specs.Spelled.{IsSpelled, AreSpelled}
-use Rattle.nq_run.specs.Steps.{Runs, after, after_event, is_taken}
+use Rattle.nq_answers.specs.Steps.{Runs, after, after_event, is_taken}
 
 -- ---- what the log's sink gains
 

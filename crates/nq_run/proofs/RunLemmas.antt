@@ -22,7 +22,7 @@ use Rattle.nq_logic.specs.Classes.{without_classes}
 use Rattle.nq_block.specs.OpenLogs.{IsOpenLog, header_text, end_text}
 use Rattle.nq_block.proofs.OpenLaws.{log_begins_law}
 use Rattle.nq_block.proofs.SymbolLaws.{symbols_begin_law}
-use Rattle.nq_run.specs.Claims.{claims_from}
+use Rattle.nq_answers.specs.Claims.{claims_from}
 use Rattle.nq_spelling.specs.Spelled.{AreSpelled}
 use Rattle.nq_run.proofs.SpelledLemmas.{items_spelled}
 use Rattle.nq_run.proofs.BuiltLemmas.{right_log}
@@ -30,8 +30,8 @@ use Rattle.nq_run.proofs.LogLemmas.{log_more, logs_after, logs_same, logs_within
 use Rattle.nq_block.specs.Names.{HasSymbols}
 use Rattle.nq_run.specs.Outcome as outcome
 use Rattle.nq_run.specs.Outcome.{Answered, Begun, CutOff, FilledLog, Finished, FinishedLog, Full, GrowsWithin, Halted, held_in, Interrupted, IsFinishedLog, IsLogOf, last_text, Logs, LogsWithin, PartialEnd, PartialLog, Ran, Stopped, Turned, TurnStopped, WroteWithin}
-use Rattle.nq_run.specs.Steps.{Runs, Step, after}
-use Rattle.nq_run.proofs.Deriving.{reported}
+use Rattle.nq_answers.specs.Steps.{Runs, Step, after}
+use Rattle.nq_answers.proofs.Deriving.{reported}
 
 -- ---- a run goes on by one form
 

@@ -1,59 +1,56 @@
--- What a session is after a form, and what it wrote of it.
-use Rattle.std.proofs.Common.{◌≡◌, ℕ, Bool, true, false, List, [], ◌∷◌, ◌++◌, ◌<◌, length, refl, ap, ap₂, sym, subst, ◌∙◌, arith, inl, inr, ltb-true}
+-- What a session is after a form.
+use Rattle.std.proofs.Common.{◌≡◌, ℕ, Bool, true, false, List, [], ◌∷◌, ◌++◌, ◌<◌, ◌≤◌, length, take, refl, ap, ap₂, sym, subst, ◌∙◌, arith, ltb-true}
 use Rattle.std.proofs.lemmas.Bool.{lt-leb}
-use Rattle.std.proofs.lemmas.List.{length-map}
-use Rattle.std.specs.Prelude.{◌&&◌, ◌||◌, All, IsTrue, Err, Option, None, Some, if◌then◌else◌}
+use Rattle.std.proofs.lemmas.List.{length-map, length-take, take_all}
+use Rattle.std.specs.Prelude.{All, IsTrue, Err, IfSome, Ok, Option, None, Some, is_some, if◌then◌else◌, nat_eq}
 use Rattle.nq_logtext.specs.Symbols.{is_symbol}
-use Rattle.nq_logic.specs.Terms.{Name, Term, IsAmong}
-use Rattle.nq_logic.specs.Histories.{Event, History, Lemma, RuleClass}
-use Rattle.nq_logic.specs.Names.{is_in_use}
+use Rattle.nq_logic.specs.Terms.{Each, Name}
+use Rattle.nq_logic.specs.Histories.{Event, History}
+use Rattle.nq_logic.specs.Ground.{ground_history}
+use Rattle.nq_logic.specs.Names.{before_event, event_in, event_names, is_in_use, looked_up}
 use Rattle.nq_bank.specs.declared.node.Mark.{Mark}
 use Rattle.nq_bank.specs.declared.node.Sym.{Sym}
-use Rattle.nq_bank.specs.declared.node.TermId.{TermId}
-use Rattle.nq_bank.specs.Content.{Content, Grows, IsNamed, Stands, term_at, text_at}
-use Rattle.nq_bank.specs.Marks.{IsMarkOf}
-use Rattle.nq_bank.proofs.Growth.{Grows-trans, IsNamed-grown, Stands-grown, term_at-grown, text_at-grown}
-use Rattle.nq_proof.specs.Clauses.{Clause, has_term, is_within}
-use Rattle.nq_proof.specs.Rules.{has_only}
-use Rattle.nq_rule.proofs.LiteralLemmas.{true_same}
+use Rattle.nq_bank.specs.Content.{Content, Grows}
+use Rattle.nq_bank.specs.Marks.{IsMarkOf, released}
 use Rattle.nq_history.specs.declared.entry.Entry.{Entry}
-use Rattle.nq_history.specs.Events.{event_at, events_at, past_ground, HistoryStands}
-use Rattle.nq_history.specs.Lookups.{event_limit, push_fault, IsAnswer}
+use Rattle.nq_history.specs.Events.{all_events_at, event_at, events_at, ground_length, past_ground, EntryStands, HistoryStands}
+use Rattle.nq_history.specs.Marking.{AreMarked, IsMarked}
+use Rattle.nq_history.specs.Lookups.{event_limit, entries_before, entry_named, push_fault, undo_answer, undo_fault, undo_result, IsAnswer, IsUndo}
 use Rattle.nq_history.specs.declared.history.PushFault.{PushFault}
 use Rattle.nq_history.specs.declared.history.PushFault.TheVariants.{Memory, NameInUse, TooManyEvents}
+use Rattle.nq_history.specs.declared.history.UndoFault.{UndoFault}
+use Rattle.nq_history.specs.declared.history.UndoFault.TheVariants as undo
 use Rattle.nq_history.proofs.HistoryLemmas.{events_at-grown, history_grown}
-use Rattle.nq_history.proofs.MarkingLemmas.{all_within, marked_grown}
+use Rattle.nq_history.proofs.LookupLemmas.{before_is, named_at, undo_place}
+use Rattle.nq_history.proofs.MarkingLemmas.{all_within, given_back_marked, given_back_stands, marked_grown}
 use Rattle.nq_kernel.specs.declared.rule.Line.{Line}
-use Rattle.nq_kernel.specs.declared.work.Work.{Work}
-use Rattle.nq_kernel.specs.Growing.{LogGrows, PrescriptionStands, WorkGrows, WorkStands}
-use Rattle.nq_kernel.specs.Meaning.{IsOver, clause_at}
+use Rattle.nq_kernel.specs.Growing.{LogGrows}
 use Rattle.nq_kernel.specs.Over.{IsVariable, RulesAreOver}
-use Rattle.nq_quick.specs.declared.fragments.Quick.{Quick}
-use Rattle.nq_quick.specs.Answers.{IsQuickAnswer}
-use Rattle.nq_quick.specs.Lines.{AreAmong, HasOnly}
-use Rattle.nq_log.specs.States.{Claim, Adds}
-use Rattle.nq_block.specs.declared.closing.Closing.TheVariants as closing
+use Rattle.nq_kernel.specs.Proving.{AtLeast}
+use Rattle.nq_log.specs.States.{Claim}
+use Rattle.nq_block.specs.declared.closing.Closing.{Closing}
 use Rattle.nq_block.specs.Blocks.{AddsBlock, IsBlock}
-use Rattle.nq_block.specs.Closings.{CanClose, CanShow, ClosingStands, IsFree, claim_at}
+use Rattle.nq_block.specs.Closings.{CanClose, IsFree}
 use Rattle.nq_block.specs.Names.{HasSymbols}
-use Rattle.nq_block.proofs.SymbolLaws.{symbols_grow_law}
-use Rattle.nq_run.specs.declared.proving.Tried.{Tried}
+use Rattle.nq_block.proofs.SymbolLaws.{symbols_begin_law, symbols_grow_law, symbols_stay_law}
+use Rattle.nq_comment.specs.ReportViews.{answer_of}
+use Rattle.nq_comment.specs.declared.answer.FormAnswer.{FormAnswer}
+use Rattle.nq_events.specs.OwnRefusals.{refused_if, room_refusal}
+use Rattle.nq_events.specs.Refusals as refusal
+use Rattle.nq_kernel.specs.EventTerms.{HasSpelledTerms}
+use Rattle.nq_run.proofs.TermLemmas.{before_spelled, more_spelled, none_spelled}
+use Rattle.nq_spelling.specs.SpelledEvents.{FewNamesBegin, FewNamesGrow, FewNamesStay, HasFewNames}
 use Rattle.nq_run.specs.declared.session.Session.{Session}
-use Rattle.nq_run.specs.HistoryView.{history_of, SessionStands}
-use Rattle.nq_run.specs.Sessions.{IsMarkBefore, IsShownBy, IsShownIf, Tries}
-use Rattle.nq_run.specs.Spelled.{IsSpelledLemma}
+use Rattle.nq_run.specs.HistoryView.{history_of, HasSpelledTerm, SessionStands}
+use Rattle.nq_run.specs.Sessions.{IsAdded, IsMarkBefore, IsUntaken}
 
--- ---- names of a history
-
--- a lemma brings its name alone
-pub lemma_symbols : (h new : History) (n : Name) (classes : List RuleClass) (t : Term) → new ≡ h ++ Lemma n classes t ∷ [] → HasSymbols h → IsTrue (is_symbol n) → HasSymbols new
-lemma_symbols h new n classes t is symbols spelled = subst HasSymbols (sym is) (symbols_grow_law h (Lemma n classes t) symbols (spelled, tt))
+-- ---- free names
 
 pub never : {A : Type 0} (b : Bool) → b ≡ true → b ≡ false → A
 never true on off = absurd cc
 never false on off = absurd cc
 
--- a lemma of a free name is added, where there is memory
+-- an event of a free name is added, where there is memory
 pub memory_alone : (bank : Content) (history : List Entry) (n : Name) (fault : PushFault) → IsFree (events_at bank history) n
     → IsAnswer (push_fault (is_in_use n (events_at bank history)) (length (past_ground history))) (Err fault) → fault ≡ Memory
 memory_alone bank history n fault free answer =
@@ -71,9 +68,38 @@ not_in_use fault memory used = let same : ◌≡◌ {A = PushFault} Memory NameI
 pub not_too_many : (fault : PushFault) → fault ≡ Memory → fault ≡ TooManyEvents → ⊥
 not_too_many fault memory many = let same : ◌≡◌ {A = PushFault} Memory TooManyEvents = sym memory ∙ many in cc
 
+-- there is room for an event of a free name
+free_room : (h : History) (n : Name) → IsFree h n → room_refusal h ≡ None
+free_room h n free = ap (λ b. refused_if b refusal.TooManyEvents) (lt-leb event_limit (length h) (ltb-true (length h) 10000 free.room))
+
 -- what was added to no text is the block
 pub block_added : (h : History) (c : Claim) (old new text : List ℕ) → old ≡ [] → text ≡ new → AddsBlock h c old new → IsBlock h c text
 block_added h c old new text none is adds = subst (IsBlock h c) (sym (is ∙ adds.whole ∙ ap (λ (front : List ℕ). front ++ adds.text) none)) adds.block
+
+-- ---- the ground history
+
+-- the entries begin with those of the ground history
+pub ground_within : (bank : Content) (history : List Entry) → HistoryStands bank history → ground_length ≤ length history
+ground_within bank history stands =
+    let ground_size : length ground_history ≡ ground_length = refl in
+    let size = length-map history (event_at bank) in
+    omega (arith, ap length stands.ground ∙ ground_size, length-take ground_length (all_events_at bank history), size)
+
+-- there are no others where there is no event past it
+pub ground_alone : (bank : Content) (history : List Entry) → all_events_at bank history ≡ ground_history → take ground_length history ≡ history
+ground_alone bank history whole =
+    let ground_size : length ground_history ≡ ground_length = refl in
+    let size : length history ≡ ground_length = sym (length-map history (event_at bank)) ∙ ap length whole ∙ ground_size in
+    take_all ground_length history (omega (arith, size))
+
+pub ground_stands : FewNamesBegin → (session : Session) → HistoryStands session.bank session.history → AreMarked session.bank session.history → history_of session ≡ [] → SessionStands session
+ground_stands few session history marked none = record {
+  history = history;
+  marked = marked;
+  symbols = subst HasSymbols (sym none) symbols_begin_law;
+  few = subst HasFewNames (sym none) few;
+  terms = subst HasSpelledTerms (sym none) none_spelled;
+}
 
 -- ---- a bank that grows under a session
 
@@ -85,6 +111,8 @@ stands_grown old bank stands grows = record {
   history = history_grown old.bank bank grows old.history stands.history;
   marked = marked_grown old.bank bank old.history grows stands.marked;
   symbols = subst HasSymbols (sym (same_history old bank stands grows)) stands.symbols;
+  few = subst HasFewNames (sym (same_history old bank stands grows)) stands.few;
+  terms = subst HasSpelledTerms (sym (same_history old bank stands grows)) stands.terms;
 }
 
 -- a mark that was just taken
@@ -92,8 +120,122 @@ pub mark_before : (old : Session) (bank : Content) (mark : Mark) → SessionStan
 mark_before old bank mark stands grows is =
     record { earlier = old.bank; mark_of = is; grew = grows; held = all_within old.bank old.history stands.marked stands.history.entries }
 
-pub mark_grown : (bank later : Content) (history : List Entry) (mark : Mark) → Grows bank later → IsMarkBefore bank history mark → IsMarkBefore later history mark
-mark_grown bank later history mark grows is = record { earlier = is.earlier; mark_of = is.mark_of; grew = Grows-trans is.earlier bank later is.grew grows; held = is.held }
+-- ---- a bank that is given back
+
+module _ (old : Session) (mark : Mark) (stands : SessionStands old) (before : IsMarkBefore old.bank old.history mark) where
+  earlier_entries : All (EntryStands before.earlier) old.history
+  earlier_entries = λ i d less. (before.held i d less).entry
+
+  earlier_history : events_at before.earlier old.history ≡ history_of old
+  earlier_history = sym (events_at-grown before.earlier old.bank before.grew old.history earlier_entries)
+
+  earlier_stands : SessionStands (record { bank = before.earlier; history = old.history })
+  earlier_stands = record {
+    history = given_back_stands before.earlier old.bank old.history before.grew before.held stands.history;
+    marked = given_back_marked before.earlier old.bank old.history before.grew before.held stands.marked;
+    symbols = subst HasSymbols (sym earlier_history) stands.symbols;
+    few = subst HasFewNames (sym earlier_history) stands.few;
+    terms = subst HasSpelledTerms (sym earlier_history) stands.terms;
+  }
+
+  -- the session as it was before the form
+  pub untaken_is : (bank : Content) (answer : FormAnswer) (block : List ℕ) → bank ≡ released old.bank mark → block ≡ []
+      → IsUntaken old (answer_of answer) (record { session = record { bank = bank; history = old.history }; answer = answer; block = block })
+  untaken_is bank answer block is none =
+      let back : bank ≡ before.earlier = is ∙ before.mark_of.returns old.bank before.grew in
+      record {
+        entries = refl;
+        same = ap (λ (b : Content). events_at b old.history) back ∙ earlier_history;
+        stands = subst (λ (b : Content). SessionStands (record { bank = b; history = old.history })) (sym back) earlier_stands;
+        answer_is = refl;
+        block_is = none;
+      }
+
+-- ---- one event more
+
+pub added_is : FewNamesGrow → (old : Session) (entry : Entry) (name : Name) (later : List Entry) → SessionStands old → IsFree (history_of old) name
+    → Each (λ n. IsTrue (is_symbol n)) (event_names (event_at old.bank entry)) → length (event_names (event_at old.bank entry)) ≤ 24 → HasSpelledTerm (event_at old.bank entry)
+    → HistoryStands old.bank later → AreMarked old.bank later → events_at old.bank later ≡ history_of old ++ event_at old.bank entry ∷ []
+    → IsAdded old entry (record { bank = old.bank; history = later })
+added_is grow old entry name later stands free symbols few term history marked is = record {
+  after = is;
+  stands = record {
+    history = history;
+    marked = marked;
+    symbols = subst HasSymbols (sym is) (symbols_grow_law (history_of old) (event_at old.bank entry) stands.symbols symbols);
+    few = subst HasFewNames (sym is) (grow (history_of old) (event_at old.bank entry) stands.few (free_room (history_of old) name free) few);
+    terms = subst HasSpelledTerms (sym is) (more_spelled (history_of old) (event_at old.bank entry) stands.terms term);
+  };
+}
+
+-- an entry that keeps a mark from before its event is marked
+pub marked_before : (bank : Content) (history : List Entry) (entry : Entry) → IsMarkBefore bank history entry.mark → IsMarked bank history entry
+marked_before bank history entry mark = record { earlier = mark.earlier; mark = mark.mark_of; grew = mark.grew; held = mark.held }
+
+-- ---- events that are taken away
+
+-- an event past the ground history is undone
+pub no_fault : (h : History) (x : Name) (fault : UndoFault) → IsUndo x h (Err fault) → is_some (looked_up x h) ≡ true → is_some (event_in x ground_history) ≡ false → ⊥
+no_fault h x undo.NoSuchEvent told known past = absurd cc
+no_fault h x undo.GroundEvent told known past = let ground : is_some (event_in x ground_history) ≡ true = told.ground in absurd cc
+
+no_undo_fault : (o : Option UndoFault) (n m : ℕ) → Ok n ≡ undo_result o m → o ≡ None
+no_undo_fault None n m e = refl
+no_undo_fault (Some fault) n m e = absurd cc
+
+-- the entry of a name before which not all entries stand
+entry_there : (name : Sym) (entries : List Entry) → length (entries_before name entries) < length entries → (e : Entry) × (entry_named name entries ≡ Some e)
+entry_there name [] less = absurd (omega (arith, less))
+entry_there name (e ∷ entries) less = pick (nat_eq name.0 e.name.0) less (entry_there name entries)
+  where
+    pick : (b : Bool) → length (if b then [] else e ∷ entries_before name entries) < length (e ∷ entries)
+        → (length (entries_before name entries) < length entries → (f : Entry) × (entry_named name entries ≡ Some f))
+        → (f : Entry) × ((if b then Some e else entry_named name entries) ≡ Some f)
+    pick true less later = (e, refl)
+    pick false less later = later (omega (arith, less))
+
+module _ (old : Session) (name : Sym) (n : ℕ) (new : Session) (stands : SessionStands old)
+    (answer : Ok n ≡ undo_answer (length (entries_before name old.history)) (length old.history))
+    (history_is : new.history ≡ entries_before name old.history)
+    (bank_is : IfSome (entry_named name old.history) (λ e. new.bank ≡ released old.bank e.mark)) where
+  place : (length (entries_before name old.history) < length old.history) × (ground_length ≤ length (entries_before name old.history))
+  place = undo_place name old.history _ _ refl refl (no_undo_fault _ n _ answer)
+
+  there : (e : Entry) × (entry_named name old.history ≡ Some e)
+  there = entry_there name old.history place.0
+
+  gone : new.bank ≡ released old.bank there.0.mark
+  gone = subst (λ (o : Option Entry). IfSome o (λ e. new.bank ≡ released old.bank e.mark)) there.1 bank_is
+
+  at : IsMarked old.bank (take (length (entries_before name old.history)) old.history) there.0
+  at = stands.marked.each (length (entries_before name old.history)) there.0 place.0 (named_at name old.history there.0 there.1)
+
+  left : take (length (entries_before name old.history)) old.history ≡ new.history
+  left = before_is name old.history ∙ sym history_is
+
+  -- the events that are left are the same over the bank that is left
+  pub undone_events : events_at new.bank new.history ≡ events_at old.bank new.history
+  undone_events =
+      let back : new.bank ≡ at.earlier = gone ∙ at.mark.returns old.bank at.grew in
+      let held : All (EntryStands at.earlier) new.history = subst (All (EntryStands at.earlier)) left (λ i d less. (at.held i d less).entry) in
+      ap (λ (b : Content). events_at b new.history) back ∙ sym (events_at-grown at.earlier old.bank at.grew new.history held)
+
+  -- the first entries are left
+  pub undone_take : take (length new.history) old.history ≡ new.history
+  undone_take = ap (λ (es : List Entry). take (length es) old.history) history_is ∙ before_is name old.history ∙ sym history_is
+
+  pub undone_fewer : length new.history ≤ length old.history
+  undone_fewer = omega (arith, ap length history_is, place.0)
+
+pub undone_stands : FewNamesStay → (old new : Session) (x : Name) → SessionStands old → HistoryStands new.bank new.history → AreMarked new.bank new.history
+    → history_of new ≡ before_event x (history_of old) → SessionStands new
+undone_stands stay old new x stands history marked is = record {
+  history = history;
+  marked = marked;
+  symbols = subst HasSymbols (sym is) (symbols_stay_law (history_of old) x stands.symbols);
+  few = subst HasFewNames (sym is) (stay (history_of old) x stands.few);
+  terms = subst HasSpelledTerms (sym is) (before_spelled (history_of old) x stands.terms);
+}
 
 -- ---- no lines
 
@@ -102,95 +244,3 @@ no_lines bank history log none = subst (LogGrows bank history []) (sym none) (re
 
 pub no_rules : (bank : Content) (history : List Entry) (log : List Line) → log ≡ [] → RulesAreOver IsVariable bank history 0 log
 no_rules bank history log none = subst (RulesAreOver IsVariable bank history 0) (sym none) (record { each = λ k line least at. absurd cc })
-
--- ---- the try of a lemma
-
-log_over : (bank : Content) (log : List Line) → log ≡ [] → IsOver bank log
-log_over bank log none = subst (IsOver bank) (sym none) (record { stand = λ i d below. absurd (omega (arith, below)) })
-
--- work on a bank, with no line yet
-pub work_stands : (history : List Entry) (bank : Content) (work : Work) → HistoryStands bank history → work.bank ≡ bank → work.log ≡ [] → work.known.items ≡ [] → WorkStands history work
-work_stands history bank work stands bank_is none unknown =
-    record {
-      log = log_over work.bank work.log none;
-      history = subst (λ (b : Content). HistoryStands b history) (sym bank_is) stands;
-      known = subst (All (PrescriptionStands work.bank work.log)) (sym unknown) (λ i d below. absurd (omega (arith, below)));
-    }
-
-among_has : (t u : Term) → IsAmong t (u ∷ []) → has_term t (u ∷ []) ≡ true
-among_has t u (inl e) = ap (λ b. b || false) (true_same t u e)
-among_has t u (inr m) = absurd m
-
-only_within : (c : Clause) (u : Term) → AreAmong c (u ∷ []) → is_within c (u ∷ []) ≡ true
-only_within [] u among = refl
-only_within (t ∷ c) u among = ap₂ (λ a b. a && b) (among_has t u (among t (inl refl))) (only_within c u (λ p m. among p (inr m)))
-
-only_has : (o : Option Clause) (u : Term) → HasOnly o (u ∷ []) → has_only o (u ∷ []) ≡ true
-only_has o u only = ap (λ (c : Option Clause). has_only c (u ∷ [])) only.stands ∙ only_within only.literals u only.only
-
--- the line of an answer of the first pass
-abbrev pub line_of : Option (Quick × ℕ) → Option ℕ
-line_of None = None
-line_of (Some found) = Some found.1
-
-shown_by : (begun work : Work) (goal : TermId) (found : Option (Quick × ℕ)) → IsQuickAnswer begun work goal found → IsShownIf (clause_at work.bank work.log) (term_at begun.bank goal) (line_of found)
-shown_by begun work goal None answer = answer
-shown_by begun work goal (Some found) answer = record { tautology = answer.tautology; only = only_has (clause_at work.bank work.log found.1) (term_at begun.bank goal) answer.holds }
-
--- what the first pass gives is a try
-pub tries : (bank : Content) (history : List Entry) (goal : TermId) (begun work : Work) (found : Option (Quick × ℕ)) (line : Option ℕ) → begun.bank ≡ bank → begun.log ≡ []
-    → IsQuickAnswer begun work goal found → WorkGrows history begun work → line ≡ line_of found → Tries bank history goal (record { bank = work.bank; log = work.log; line = line })
-tries bank history goal begun work found line bank_is none answer grew is = record {
-  grows = subst (λ (b : Content). Grows b work.bank) bank_is grew.bank;
-  legal = subst (λ (log : List Line). LogGrows work.bank history log work.log) none grew.log;
-  rules = subst (λ (n : ℕ). RulesAreOver IsVariable work.bank history n work.log) (ap length none) grew.rules;
-  shown = subst (λ (b : Content). IsShownIf (clause_at work.bank work.log) (term_at b goal) line) bank_is
-      (subst (IsShownIf (clause_at work.bank work.log) (term_at begun.bank goal)) (sym is) (shown_by begun work goal found answer));
-}
-
--- ---- a lemma that is proved
-
-module _ (old : Session) (s : Sym) (goal : TermId) (p : Tried) (stands : SessionStands old) (named : IsNamed old.bank s) (there : Stands old.bank goal) (tries_are : Tries old.bank old.history goal p) where
-  pub kept_history : events_at p.bank old.history ≡ history_of old
-  kept_history = same_history old p.bank stands tries_are.grows
-
-  kept_name : text_at p.bank s ≡ text_at old.bank s
-  kept_name = text_at-grown old.bank p.bank s tries_are.grows named
-
-  kept_goal : term_at p.bank goal ≡ term_at old.bank goal
-  kept_goal = term_at-grown old.bank p.bank goal tries_are.grows there
-
-  pub name_there : IsNamed p.bank s
-  name_there = IsNamed-grown old.bank p.bank s tries_are.grows named
-
-  pub goal_there : Stands p.bank goal
-  goal_there = Stands-grown old.bank p.bank goal tries_are.grows there
-
-  pub closing_stands : (line : ℕ) → ClosingStands p.bank (closing.Lemma s goal line)
-  closing_stands line = record { named = name_there; stands = goal_there }
-
-  pub free_there : IsFree (history_of old) (text_at old.bank s) → IsFree (events_at p.bank old.history) (text_at p.bank s)
-  free_there free = subst (λ (h : History). IsFree h (text_at p.bank s)) (sym kept_history) (subst (IsFree (history_of old)) (sym kept_name) free)
-
-  pub can_close : (line : ℕ) → IsFree (history_of old) (text_at old.bank s) → IsSpelledLemma (history_of old) (text_at old.bank s) (term_at old.bank goal)
-      → IsShownBy (clause_at p.bank p.log line) (term_at old.bank goal) → CanClose p.bank old.history p.log (closing.Lemma s goal line)
-  can_close line free spelled shown =
-      let clause : Option Clause = clause_at p.bank p.log line in
-      let here : CanShow (history_of old) (text_at old.bank s) (term_at old.bank goal) clause = record { free = free; claimable = spelled.claimable; only = shown.only } in
-      let term : CanShow (history_of old) (text_at old.bank s) (term_at p.bank goal) clause = subst (λ (t : Term). CanShow (history_of old) (text_at old.bank s) t clause) (sym kept_goal) here in
-      let name : CanShow (history_of old) (text_at p.bank s) (term_at p.bank goal) clause = subst (λ (m : Name). CanShow (history_of old) m (term_at p.bank goal) clause) (sym kept_name) term in
-      subst (λ (h : History). CanShow h (text_at p.bank s) (term_at p.bank goal) clause) (sym kept_history) name
-
-  event_is : ◌≡◌ {A = Event} (Lemma (text_at p.bank s) [] (term_at p.bank goal)) (Lemma (text_at old.bank s) [] (term_at old.bank goal))
-  event_is = ap₂ (λ (m : Name) (t : Term). Lemma m [] t) kept_name kept_goal
-
-  -- the history with the lemma
-  pub lemma_added : (later : History) → later ≡ events_at p.bank old.history ++ Lemma (text_at p.bank s) [] (term_at p.bank goal) ∷ []
-      → later ≡ history_of old ++ Lemma (text_at old.bank s) [] (term_at old.bank goal) ∷ []
-  lemma_added later is = is ∙ ap₂ (λ (h : History) (e : Event). h ++ e ∷ []) kept_history event_is
-
-  pub lemma_block : (line : ℕ) (text : List ℕ) → IsBlock (events_at p.bank old.history) (claim_at p.bank (closing.Lemma s goal line)) text
-      → IsBlock (history_of old) (Adds (Lemma (text_at old.bank s) [] (term_at old.bank goal))) text
-  lemma_block line text block =
-      let claim = subst (λ (e : Event). IsBlock (events_at p.bank old.history) (Adds e) text) event_is block in
-      subst (λ (h : History). IsBlock h (Adds (Lemma (text_at old.bank s) [] (term_at old.bank goal))) text) kept_history claim

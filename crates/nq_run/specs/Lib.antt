@@ -1,10 +1,6 @@
-pub mod Headers
 pub mod HistoryView
-pub mod Steps
 pub mod Answers
-pub mod Derived
-pub mod Claims
-pub mod Spelled
+pub mod ShellNames
 pub mod Outcome
 pub mod Sessions
 pub mod RunFaults

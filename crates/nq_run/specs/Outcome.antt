@@ -19,10 +19,10 @@ use Rattle.nq_comment.specs.Text.{lines_of_report, rendering, report_lines}
 use Rattle.nq_comment.specs.ReportViews.{ending_of}
 use Rattle.nq_comment.specs.Totals.{Totals, totals_of, unsuccessful, with_report}
 use Rattle.nq_comment.specs.declared.report.SyntaxFault.{SyntaxFault}
-use Rattle.nq_run.specs.Claims.{claims_at, claims_from}
-use Rattle.nq_run.specs.Derived.{Reported}
+use Rattle.nq_answers.specs.Claims.{claims_at, claims_from}
+use Rattle.nq_answers.specs.Derived.{Reported}
 use Rattle.nq_spelling.specs.Spelled.{IsSpelled, AreSpelled}
-use Rattle.nq_run.specs.Steps.{Runs, Step, after}
+use Rattle.nq_answers.specs.Steps.{Runs, Step, after}
 
 -- what is held grew by the text, or by a front part of it
 pub record GrowsWithin (old new : Option (List ℕ)) (text : List ℕ) : Type 0 where

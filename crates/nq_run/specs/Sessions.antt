@@ -2,18 +2,23 @@
 use Rattle.std.specs.Prelude.{◌≡◌, ℕ, Bool, true, List, [], ◌∷◌, ◌++◌, All, Option, None, Some, if◌then◌else◌}
 use Rattle.nq_logic.specs.Terms.{Name, Term}
 use Rattle.nq_logic.specs.Histories.{History, Lemma}
-use Rattle.nq_bank.specs.Content.{Content, Grows, term_at}
+use Rattle.nq_bank.specs.Content.{Content, Grows, term_at, text_at}
 use Rattle.nq_bank.specs.Marks.{IsMarkOf}
 use Rattle.nq_bank.specs.declared.node.Mark.{Mark}
+use Rattle.nq_bank.specs.declared.node.Sym.{Sym}
 use Rattle.nq_bank.specs.declared.node.TermId.{TermId}
-use Rattle.nq_proof.specs.Clauses.{Clause}
 use Rattle.nq_proof.specs.Rules.{has_only}
 use Rattle.nq_history.specs.declared.entry.Entry.{Entry}
 use Rattle.nq_history.specs.Marking.{IsWithin}
-use Rattle.nq_kernel.specs.Growing.{LogGrows}
+use Rattle.nq_history.specs.Events.{event_at, events_at}
+use Rattle.nq_kernel.specs.declared.verdict.Quick.{Quick}
+use Rattle.nq_kernel.specs.declared.verdict.Proof.TheVariants.{First, Waterfall}
+use Rattle.nq_kernel.specs.declared.verdict.Verdict.{Verdict}
+use Rattle.nq_kernel.specs.declared.verdict.Verdict.TheVariants.{Proved, Failed, OutOfSteps, NotYet}
+use Rattle.nq_kernel.specs.declared.work.Work.{Work}
 use Rattle.nq_kernel.specs.Meaning.{clause_at}
-use Rattle.nq_kernel.specs.Over.{IsVariable, RulesAreOver}
-use Rattle.nq_quick.specs.Tautologies.{IsSmallTautology}
+use Rattle.nq_kernel.specs.Proving.{IsFirstFragment}
+use Rattle.nq_fragments.specs.Fragments.{IsInNoFragment}
 use Rattle.nq_form.specs.Form.{Form}
 use Rattle.nq_log.specs.States.{Claim, Adds}
 use Rattle.nq_events.specs.Events.{Event}
@@ -22,27 +27,39 @@ use Rattle.nq_comment.specs.ReportViews.{answer_of}
 use Rattle.nq_run.specs.declared.session.Session.{Session}
 use Rattle.nq_run.specs.declared.session.Taken.{Taken}
 use Rattle.nq_run.specs.declared.proving.Tried.{Tried}
-use Rattle.nq_run.specs.Claims.{claims_at, claims_of}
+use Rattle.nq_answers.specs.Claims.{claims_at, claims_of}
 use Rattle.nq_run.specs.HistoryView.{history_of, SessionStands}
 use Rattle.nq_run.specs.Outcome.{AreBlocks}
-use Rattle.nq_run.specs.Steps.{Answers, AnswersUnless, IsTried, after, after_event, is_taken, not_yet, untaken}
+use Rattle.nq_answers.specs.Steps.{Answers, AnswersUnless, IsTried, after, after_event, is_taken, not_yet, untaken}
 
--- the line has only the term, which is a small tautology
-pub record IsShownBy (clause : Option Clause) (t : Term) : Type 0 where
-  pub tautology : IsSmallTautology t
-  pub only : has_only clause (t ∷ []) ≡ true
+-- the fragment is the first that holds the term; where there is none, no fragment holds it
+abbrev pub IsFoundBy : History → Term → Option Quick → Type 0
+IsFoundBy h t None = IsInNoFragment h t
+IsFoundBy h t (Some way) = IsFirstFragment h t way
 
--- the line of this number has only the term, which is a small tautology; where there is none, it is no small tautology
-abbrev pub IsShownIf : (ℕ → Option Clause) → Term → Option ℕ → Type 0
-IsShownIf lines t None = IsSmallTautology t → ⊥
-IsShownIf lines t (Some line) = IsShownBy (lines line) t
+-- the line that shows a lemma by a fragment, as a verdict tells it
+abbrev pub ShownBy : Verdict → Option (ℕ × Quick) → Type 0
+ShownBy (Proved line (First way)) shown = shown ≡ Some (line, way)
+ShownBy (Proved line (Waterfall path)) shown = shown ≡ None
+ShownBy (Failed path cause) shown = shown ≡ None
+ShownBy OutOfSteps shown = shown ≡ None
+ShownBy (NotYet path) shown = shown ≡ None
 
--- The lines of a log, each of which follows from those before it, show the goal exactly where it is a small tautology.
-pub record Tries (bank : Content) (history : List Entry) (goal : TermId) (tried : Tried) : Type 0 where
-  pub grows : Grows bank tried.bank
-  pub legal : LogGrows tried.bank history [] tried.log
-  pub rules : RulesAreOver IsVariable tried.bank history 0 tried.log
-  pub shown : IsShownIf (clause_at tried.bank tried.log) (term_at bank goal) tried.line
+-- the line has only the term, and the fragment is the first that holds it; where there is no line, no fragment holds it
+abbrev pub IsShownBy : Work → History → Term → Option (ℕ × Quick) → Type 0
+IsShownBy work h t None = IsInNoFragment h t
+IsShownBy work h t (Some shown) = (has_only (clause_at work.bank work.log shown.0) (t ∷ []) ≡ true) × IsFirstFragment h t shown.1
+
+-- what a lemma claims that was proved in a fragment
+abbrev pub found_claims : Name → Term → Option Quick → List Claim
+found_claims name t None = []
+found_claims name t (Some way) = Adds (Lemma name [] t) ∷ []
+
+-- The try of a lemma: its fragment, the block of what it claims, and the bank as it was before.
+pub record Tries (bank : Content) (history : List Entry) (name : Sym) (goal : TermId) (logging : Bool) (tried : Tried) : Type 0 where
+  pub same : tried.bank ≡ bank
+  pub found : IsFoundBy (events_at bank history) (term_at bank goal) tried.way
+  pub written : logging ≡ true → AreBlocks (events_at bank history) (found_claims (text_at bank name) (term_at bank goal) tried.way) tried.block
 
 -- the mark was taken of an earlier bank, which held these entries and has grown since
 pub record IsMarkBefore (bank : Content) (history : List Entry) (mark : Mark) : Type 0 where
@@ -51,11 +68,18 @@ pub record IsMarkBefore (bank : Content) (history : List Entry) (mark : Mark) : 
   pub grew : Grows earlier bank
   pub held : All (IsWithin earlier) history
 
--- the session as it was, and the answer for what isn't built yet
-pub record IsNotYet (old : Session) (form : Form) (r : Taken) : Type 0 where
-  pub session_is : r.session ≡ old
-  pub answer_is : answer_of r.answer ≡ not_yet form
+-- the session as it was before the form, with this answer, and no block
+pub record IsUntaken (old : Session) (answer : Answer) (r : Taken) : Type 0 where
+  pub entries : r.session.history ≡ old.history
+  pub same : history_of r.session ≡ history_of old
+  pub stands : SessionStands r.session
+  pub answer_is : answer_of r.answer ≡ answer
   pub block_is : r.block ≡ []
+
+-- one event more stands at the end
+pub record IsAdded (old : Session) (entry : Entry) (new : Session) : Type 0 where
+  pub after : history_of new ≡ history_of old ++ event_at old.bank entry ∷ []
+  pub stands : SessionStands new
 
 -- what a form is answered, the session after it, and the block of what it claims
 pub record Takes (old : History) (form : Form) (logging : Bool) (r : Taken) : Type 0 where
@@ -66,7 +90,7 @@ pub record Takes (old : History) (form : Form) (logging : Bool) (r : Taken) : Ty
 
 -- the same for the event of a form that isn't refused
 pub record TakesEvent (old : History) (form : Form) (event : Event) (logging : Bool) (r : Taken) : Type 0 where
-  pub answered : AnswersUnless (untaken old form event) form event (answer_of r.answer)
+  pub answered : AnswersUnless (untaken old form event) old form event (answer_of r.answer)
   pub after_is : history_of r.session ≡ after_event old event (answer_of r.answer)
   pub stands : SessionStands r.session
   pub written : logging ≡ true → AreBlocks old (claims_of event (answer_of r.answer)) r.block
@@ -80,7 +104,7 @@ lemma_claims name t answer = if is_taken answer then Adds (Lemma name [] t) ∷ 
 
 -- the same for a lemma without rule classes that nothing keeps from being tried
 pub record TriesLemma (old : History) (form : Form) (name : Name) (t : Term) (logging : Bool) (r : Taken) : Type 0 where
-  pub tried : IsTried form t (answer_of r.answer)
+  pub tried : IsTried old form t (answer_of r.answer)
   pub after_is : history_of r.session ≡ after_lemma old name t (answer_of r.answer)
   pub stands : SessionStands r.session
   pub written : logging ≡ true → AreBlocks old (lemma_claims name t (answer_of r.answer)) r.block

@@ -4,7 +4,7 @@ ghost use Rattle.std.specs.Option.{option_map};
 ghost use Rattle.nq_sexp.specs.Tree.{tree};
 ghost use Rattle.nq_comment.specs.ReportViews.{text_of};
 ghost use Rattle.nq_events.specs.Parts.{symbol_in};
-ghost use Rattle.nq_run.specs.Headers.{front_elements};
+ghost use Rattle.nq_answers.specs.Headers.{front_elements};
 
 use nq_sexp::Sexp;
 

@@ -5,7 +5,7 @@ ghost use Rattle.std.specs.List.{list_any};
 ghost use Rattle.std.specs.Str.{bytes_eq};
 ghost use Rattle.nq_sexp.specs.Tree.{tree};
 ghost use Rattle.nq_comment.specs.ReportViews.{text_of};
-ghost use Rattle.nq_run.specs.Headers.{front_elements, is_named, name_of, second_symbol_in, word_of};
+ghost use Rattle.nq_answers.specs.Headers.{front_elements, is_named, name_of, second_symbol_in, word_of};
 
 use crate::form::{front_elements, symbol_in};
 use nq_sexp::Sexp;

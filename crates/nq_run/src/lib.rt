@@ -14,6 +14,16 @@ mod answers;
 mod proving;
 mod session;
 
+// events, each by its kind
+mod definition_events;
+mod formula_events;
+mod name_events;
+mod shell_events;
+mod undo_events;
+
+// the names of a shell that are in use
+mod shell_names;
+
 // what is written
 mod outputs;
 

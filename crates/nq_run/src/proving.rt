@@ -1,55 +1,140 @@
-// The try of a lemma, and what is made of it: the block of the log, and the history with the lemma.
-ghost use Rattle.std.specs.Prelude.{◌≡◌, ◌++◌, ◌∷◌, IfOk, [], true};
-ghost use Rattle.nq_logic.specs.Histories.{Lemma};
+// The try of a lemma, and the block of what an event claims.
+ghost use Rattle.std.specs.Prelude.{◌≡◌, IfOk, [], true};
 ghost use Rattle.nq_bank.specs.Content.{IsNamed, Stands, term_at, text_at};
+ghost use Rattle.nq_bank.specs.Marks.{CanRelease, released};
 ghost use Rattle.nq_history.specs.Events.{events_at, HistoryStands};
-ghost use Rattle.nq_history.specs.Marking.{AreMarked};
+ghost use Rattle.nq_history.specs.Hints.{HintsStand};
+ghost use Rattle.nq_kernel.specs.EventTerms.{HasSpelledTerms};
 ghost use Rattle.nq_kernel.specs.Growing.{LogGrows};
-ghost use Rattle.nq_kernel.specs.Over.{IsVariable, RulesAreOver, TermIsIn};
+ghost use Rattle.nq_kernel.specs.Hints.{HintsAreIn};
+ghost use Rattle.nq_kernel.specs.Over.{IsVariable, RulesAreOver};
 ghost use Rattle.nq_block.specs.Blocks.{IsBlock};
 ghost use Rattle.nq_block.specs.Closings.{CanClose, ClosingStands, IsFree, claim_at};
 ghost use Rattle.nq_block.specs.Names.{HasSymbols};
-ghost use Rattle.nq_run.specs.Sessions.{IsMarkBefore, Tries};
+ghost use Rattle.nq_run.specs.Outcome.{AreBlocks};
+ghost use Rattle.nq_run.specs.Sessions.{IsFoundBy, IsShownBy, ShownBy, Tries, found_claims};
+ghost use Rattle.nq_spelling.specs.SpelledEvents.{IsSpelledFormula};
 
 use nq_bank::{Bank, Mark, Sym, TermId};
 use nq_block::{Closing, write_block};
-use nq_history::{Entry, EntryKind, History, PushFault};
-use nq_kernel::{Log, Work};
+use nq_history::{Hints, History};
+use nq_kernel::{Log, Proof, Prover, Quick, Verdict, Work};
 use nq_logtext::Text;
-use nq_quick::quick;
 use std::alloc::{AllocError, Global};
 
-/// The try of a lemma: the lines that were made, and the number of the one that has only its goal, where it was proved.
+/// A lemma that is to be tried: its name, its term, and its hints.
+#[derive(Clone, Copy)]
+pub(crate) struct Conjecture<'a> {
+    pub(crate) name: Sym,
+    pub(crate) goal: TermId,
+    pub(crate) hints: &'a Hints,
+}
+
+/// The try of a lemma: the bank as it was before, the fragment that proved the lemma, and the block of what it claims.
 #[derive(Drop)]
 pub(crate) struct Tried {
     pub(crate) bank: Bank,
-    pub(crate) log: Log,
-    pub(crate) line: Option<u64>,
+    pub(crate) way: Option<Quick>,
+    pub(crate) block: Text,
 }
 
-/// Tries to prove the goal, which so many steps may take.
-pub(crate) fn try_goal(
+/// The line that shows a lemma, and the fragment that proved it.
+fn shown_by(verdict: &Verdict) -> Option<(u64, Quick)>
+    ensures { ShownBy verdict.now result }
+{
+    match verdict {
+        Verdict::Proved(line, Proof::First(way)) => Some((*line, *way)),
+        Verdict::Proved(_, Proof::Waterfall(_)) => None,
+        Verdict::Failed(_, _) => None,
+        Verdict::OutOfSteps => None,
+        Verdict::NotYet(_) => None,
+    }
+}
+
+/// Tries to prove a lemma, which so many steps may take, and gives back what its proof made in the bank.
+pub(crate) fn try_lemma<P: Prover>(
     alloc: Global,
+    prover: &mut P,
     bank: Bank,
     history: &History,
-    goal: TermId,
+    lemma: Conjecture<'_>,
+    logging: bool,
     steps: u64,
 ) -> Result<Tried, AllocError>
     requires history { HistoryStands bank history.now }
-    requires goal { Stands bank goal }
-    requires over { TermIsIn bank history.now goal }
-    ensures { IfOk result (Tries bank history.now goal) }
+    requires symbols { HasSymbols (events_at bank history.now) }
+    requires learnt { P.has_learnt prover.old history.now }
+    requires name { IsNamed bank lemma.name }
+    requires goal { Stands bank lemma.goal }
+    requires hints { HintsStand bank lemma.hints.now }
+    requires terms { HasSpelledTerms (events_at bank history.now) }
+    requires hint_terms { HintsAreIn bank history.now lemma.hints.now }
+    requires spelled { IsSpelledFormula (events_at bank history.now) (text_at bank lemma.name) (term_at bank lemma.goal) }
+    requires free { IsFree (events_at bank history.now) (text_at bank lemma.name) }
+    ensures tried { IfOk result (Tries bank history.now lemma.entry.name lemma.entry.goal logging) }
+    ensures learnt { IfOk result (λ tried. P.has_learnt prover.new history.now) }
 {
+    let mark = bank.mark();
     let mut work = Work::new(bank, Log::new(alloc), steps);
-    let line = match quick(&mut work, history, goal)? {
-        Some(found) => Some(found.1),
-        None => None,
-    };
-    Ok(Tried {
-        bank: work.bank,
-        log: work.log,
-        line,
-    })
+    let verdict = prover.prove(&mut work, history, lemma.goal, lemma.hints)?;
+    let tried = tried_by(alloc, work, history, lemma, shown_by(&verdict), logging)?;
+    Ok(given_back(tried, mark))
+}
+
+/// The try that made this work: the block of the lemma, where a line shows it.
+fn tried_by(
+    alloc: Global,
+    work: Work,
+    history: &History,
+    lemma: Conjecture<'_>,
+    shown: Option<(u64, Quick)>,
+    logging: bool,
+) -> Result<Tried, AllocError>
+    requires legal { LogGrows work.bank history.now [] work.log }
+    requires over { RulesAreOver IsVariable work.bank history.now 0 work.log }
+    requires symbols { HasSymbols (events_at work.bank history.now) }
+    requires name { IsNamed work.bank lemma.name }
+    requires goal { Stands work.bank lemma.goal }
+    requires spelled { IsSpelledFormula (events_at work.bank history.now) (text_at work.bank lemma.name) (term_at work.bank lemma.goal) }
+    requires free { IsFree (events_at work.bank history.now) (text_at work.bank lemma.name) }
+    requires shown { IsShownBy work (events_at work.bank history.now) (term_at work.bank lemma.goal) shown }
+    ensures bank { IfOk result (λ tried. tried.bank ≡ work.bank) }
+    ensures found { IfOk result (λ tried. IsFoundBy (events_at work.bank history.now) (term_at work.bank lemma.entry.goal) tried.way) }
+    ensures written { IfOk result (λ tried. logging ≡ true → AreBlocks (events_at work.bank history.now)
+        (found_claims (text_at work.bank lemma.entry.name) (term_at work.bank lemma.entry.goal) tried.way) tried.block) }
+{
+    match shown {
+        Some((line, way)) => {
+            let closing = Closing::Lemma(lemma.name, lemma.goal, line);
+            let block = block_of(alloc, logging, &work.bank, history, &work.log, &closing)?;
+            Ok(Tried {
+                bank: work.bank,
+                way: Some(way),
+                block,
+            })
+        }
+        None => Ok(Tried {
+            bank: work.bank,
+            way: None,
+            block: Text::new(alloc),
+        }),
+    }
+}
+
+/// The try, without what the proof made in the bank past the mark.
+fn given_back(tried: Tried, mark: Mark) -> Tried
+    requires { CanRelease tried.bank mark }
+    ensures bank { result.bank ≡ released tried.bank mark }
+    ensures way { result.way ≡ tried.way }
+    ensures block { result.block ≡ tried.block }
+{
+    let Tried {
+        mut bank,
+        way,
+        block,
+    } = tried;
+    bank.release(mark);
+    Tried { bank, way, block }
 }
 
 /// The block of what an event claims; no text where no log is written.
@@ -73,35 +158,4 @@ pub(crate) fn block_of(
         write_block(bank, history, log, closing, &mut text)?;
     }
     Ok(text)
-}
-
-/// The history with a lemma more, whose event began at this mark.
-pub(crate) fn with_lemma(
-    bank: &Bank,
-    mut history: History,
-    mark: Mark,
-    name: Sym,
-    goal: TermId,
-) -> Result<History, AllocError>
-    requires history { HistoryStands bank.now history }
-    requires marked { AreMarked bank.now history }
-    requires mark { IsMarkBefore bank.now history mark }
-    requires name { IsNamed bank.now name }
-    requires goal { Stands bank.now goal }
-    requires free { IsFree (events_at bank.now history) (text_at bank.now name) }
-    ensures after { IfOk result (λ later. events_at bank.now later ≡ events_at bank.now history ++ Lemma (text_at bank.now name) [] (term_at bank.now goal) ∷ []) }
-    ensures stands { IfOk result (HistoryStands bank.now) }
-    ensures marked { IfOk result (AreMarked bank.now) }
-{
-    let entry = Entry {
-        name,
-        kind: EntryKind::Lemma(Vec::new(bank.alloc()), goal),
-        mark,
-    };
-    match history.push(bank, entry) {
-        Ok(()) => Ok(history),
-        Err(PushFault::Memory) => Err(AllocError),
-        Err(PushFault::NameInUse) => unreachable!(),
-        Err(PushFault::TooManyEvents) => unreachable!(),
-    }
 }

@@ -1,15 +1,18 @@
 // The run of an event file: each form is run as it is read.
-ghost use Rattle.std.specs.Prelude.{◌≡◌, ◌≤◌, ◌<◌, ◌+◌, ◌^◌, ◌⊎◌, ◌++◌, ℕ, List, Option, Some, None, Ok, Err, IfOk, IfSome, OnOk, OnErr, [], true, false, length};
+ghost use Rattle.std.specs.Prelude.{◌≡◌, ◌≤◌, ◌<◌, ◌+◌, ◌^◌, ◌⊎◌, ◌++◌, ℕ, List, Option, Some, None, Ok, Err, IfOk, IfSome, OnOk, OnErr, [], true, false, length, take};
 ghost use Rattle.std.specs.Io.KnownBytes.{Appends, Keeps};
 ghost use Rattle.nq_io.specs.Faults.{Rose};
 ghost use Rattle.nq_form.specs.Form.{Forms};
 ghost use Rattle.nq_form.specs.Grammar.{Reads};
+ghost use Rattle.nq_form.specs.Widths.{IsNarrow};
 ghost use Rattle.nq_sexp.specs.Tree.{tree};
 ghost use Rattle.nq_comment.specs.ReportViews.{ending_of};
 ghost use Rattle.nq_comment.specs.Reports.{Report};
 ghost use Rattle.nq_comment.specs.Text.{closing_lines};
 ghost use Rattle.nq_comment.specs.Totals.{totals_in, totals_of};
 ghost use Rattle.nq_block.specs.OpenLogs.{header_text};
+ghost use Rattle.nq_history.specs.Events.{ground_length};
+ghost use Rattle.nq_kernel.specs.Proving.{HasGround};
 ghost use Rattle.nq_run.specs.HistoryView.{history_of, SessionStands};
 ghost use Rattle.nq_run.specs.Outcome.{Begun, FilledLog, Finished, Full, GrowsWithin, Halted, Interrupted, IsStop, Logs, LogsWithin, Stopped, Turned, TurnStopped, WasRun, held_in, last_text, status_of};
 ghost use Rattle.nq_run.specs.RunFaults.{fault_status};
@@ -21,6 +24,7 @@ use crate::session::Session;
 use bumpalo::Bump;
 use nq_comment::{Counts, FormReport, SyntaxFault, render_closing, render_report};
 use nq_io::{Sink, Source};
+use nq_kernel::Prover;
 use nq_sexp::{ReadFault, Reader, Sexp};
 use std::alloc::Global;
 
@@ -94,16 +98,19 @@ struct Walked {
 
 /// Runs the forms of the source from the ground history, each as it is read, and writes the commentary: each report by one
 /// write, and then the closing lines by one. With `logging` it writes the log too: its first line, the block of each event
-/// that was accepted, proved or undone, and its last line once the whole file was run; else `log` is left alone. Each event
-/// may take so many steps.
-pub fn run_events<S: Source, O: Sink, L: Sink>(
+/// that was accepted, proved or undone, and its last line once the whole file was run; else `log` is left alone. The prover has
+/// learnt just the ground history. Each event may take so many steps.
+pub fn run_events<S: Source, O: Sink, L: Sink, P: Prover>(
     alloc: Global,
     src: &mut S,
     comment: &mut O,
     log: &mut L,
     logging: bool,
-    steps: u64,
+    prover: &mut P,
+    limit: u64,
 ) -> Result<Ended, RunFault>
+    requires learnt { HasGround (P.has_learnt prover.old) }
+
     // The whole commentary was written, and the whole log.
     ensures finished { IfOk result (λ ended. (reports : List Report)
         × Finished logging (S.left src.old) (ending_of ended.fault) reports (held_in (O.written comment.old) (L.written log.old)) (held_in (O.written comment.new) (L.written log.new))
@@ -126,7 +133,7 @@ pub fn run_events<S: Source, O: Sink, L: Sink>(
     // Where no log is written, its sink is left alone.
     ensures alone { logging ≡ false → log.new ≡ log.old }
 {
-    let walked = run_forms(alloc, src, comment, log, logging, steps)?;
+    let walked = run_forms(alloc, src, comment, log, logging, prover, limit)?;
     match fault_of(walked.stop) {
         Ok(fault) => finish(alloc, fault, walked.progress, comment, log),
         Err(fault) => Err(fault),
@@ -171,14 +178,16 @@ fn begin<L: Sink>(log: &mut L, logging: bool) -> Result<LogSoFar, RunFault>
 }
 
 /// Runs the forms as they are read, and writes a report for each, and a block for what it claims.
-fn run_forms<S: Source, O: Sink, L: Sink>(
+fn run_forms<S: Source, O: Sink, L: Sink, P: Prover>(
     alloc: Global,
     src: &mut S,
     comment: &mut O,
     log: &mut L,
     logging: bool,
-    steps: u64,
+    prover: &mut P,
+    limit: u64,
 ) -> Result<Walked, RunFault>
+    requires learnt { HasGround (P.has_learnt prover.old) }
     ensures walked { IfOk result (λ walked. (forms : Forms)
         × WasRun logging forms (totals_in walked.progress.counts) walked.progress.log.count (held_in (O.written comment.old) (L.written log.old)) (held_in (O.written comment.new) (L.written log.new))
         × IfSome (S.left src.old) (λ text. Begun text forms)
@@ -205,7 +214,7 @@ fn run_forms<S: Source, O: Sink, L: Sink>(
     loop {
         match reader.next(&arena, src) {
             Ok(Some(form)) => {
-                let turn = turn(alloc, session, progress, &form, comment, log, steps)?;
+                let turn = turn(alloc, session, progress, &form, comment, log, prover, limit)?;
                 session = turn.session;
                 progress = turn.progress;
             }
@@ -228,6 +237,7 @@ fn run_forms<S: Source, O: Sink, L: Sink>(
 fn ground_session(alloc: Global) -> Result<Session, RunFault>
     ensures none { IfOk result (λ s. history_of s ≡ []) }
     ensures stands { IfOk result SessionStands }
+    ensures whole { IfOk result (λ s. take ground_length s.history ≡ s.history) }
     ensures only { OnErr result (result ≡ Err RunFault.Memory) }
 {
     match Session::ground(alloc) {
@@ -252,23 +262,27 @@ struct Advanced {
 }
 
 /// Runs one form, writes its report by one write, and behind it its block to the log.
-fn turn<O: Sink, L: Sink>(
+fn turn<O: Sink, L: Sink, P: Prover>(
     alloc: Global,
     session: Session,
     progress: Progress,
     form: &Sexp<'_>,
     comment: &mut O,
     log: &mut L,
-    steps: u64,
+    prover: &mut P,
+    limit: u64,
 ) -> Result<Advanced, RunFault>
     requires stands { SessionStands session }
+    requires learnt { P.has_learnt prover.old session.history }
     requires spelled { IsSpelled (tree form.now) }
+    requires narrow { IsNarrow (2 ^ 25) (tree form.now) }
     requires number { progress.counts.forms + 1 < 2 ^ 64 }
     requires within { progress.log.count < 2 ^ 62 }
     ensures turned { IfOk result (λ turn. Turned progress.log.logging (tree form.now) (history_of session)
         (history_of turn.session) (totals_in progress.counts) (totals_in turn.progress.counts) progress.log.count turn.progress.log.count
         (held_in (O.written comment.old) (L.written log.old)) (held_in (O.written comment.new) (L.written log.new))) }
     ensures stands { IfOk result (λ turn. SessionStands turn.session) }
+    ensures learnt { IfOk result (λ turn. P.has_learnt prover.new turn.session.history) }
     ensures same { IfOk result (λ turn. turn.progress.log.logging ≡ progress.log.logging) }
     ensures bound { IfOk result (λ turn. turn.progress.log.count < 2 ^ 62) }
     ensures full { result ≡ Err RunFault.TooLong → (progress.log.logging ≡ true) × FilledLog progress.log.count (progress.counts.forms + 1) (tree form.now) (history_of session)
@@ -281,7 +295,7 @@ fn turn<O: Sink, L: Sink>(
     ensures no_read { result ≡ Err RunFault.Read → ⊥ }
     ensures alone { progress.log.logging ≡ false → log.new ≡ log.old }
 {
-    let taken = match session.take(alloc, form, progress.log.logging, steps) {
+    let taken = match session.take(alloc, prover, form, progress.log.logging, limit) {
         Ok(taken) => taken,
         Err(_) => return Err(RunFault::Memory),
     };

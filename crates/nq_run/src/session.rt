@@ -1,37 +1,53 @@
-// The events that stand.
-ghost use Rattle.std.specs.Prelude.{◌≡◌, IfOk, [], map};
+// The events that stand, and how one more is taken.
+ghost use Rattle.std.specs.Prelude.{◌≡◌, ◌≤◌, ◌^◌, IfOk, IsTrue, [], length, take, true};
 ghost use Rattle.std.specs.Option.{option_map};
-ghost use Rattle.nq_form.specs.Form.{Form};
+ghost use Rattle.nq_form.specs.Widths.{IsNarrow};
 ghost use Rattle.nq_sexp.specs.Tree.{tree};
-ghost use Rattle.nq_bank.specs.Content.{IsNamed, Stands, term_at, text_at};
-ghost use Rattle.nq_history.specs.Events.{class_of};
-ghost use Rattle.nq_block.specs.Closings.{IsFree};
+ghost use Rattle.nq_logic.specs.Names.{event_names};
+ghost use Rattle.nq_logic.specs.Terms.{Each};
+ghost use Rattle.nq_logtext.specs.Symbols.{is_symbol};
+ghost use Rattle.nq_bank.specs.Content.{text_at};
+ghost use Rattle.nq_history.specs.Events.{event_at, ground_length, EntryStands};
+ghost use Rattle.nq_block.specs.Blocks.{IsBlock};
+ghost use Rattle.nq_block.specs.Closings.{CanClose, ClosingStands, IsFree, claim_at};
 ghost use Rattle.nq_comment.specs.ReportViews.{answer_of};
-ghost use Rattle.nq_events.specs.Events as model;
-ghost use Rattle.nq_event.specs.EventsAt.{EventStands, event_at};
+ghost use Rattle.nq_comment.specs.declared.answer.FormAnswer.TheVariants as answers;
+ghost use Rattle.nq_events.specs.OwnRefusals.{room_refusal};
+ghost use Rattle.nq_event.specs.EventsAt.{EventStands, event_at as event_read};
 ghost use Rattle.nq_spelling.specs.Spelled.{IsSpelled};
-ghost use Rattle.nq_run.specs.HistoryView.{history_of, SessionStands};
-ghost use Rattle.nq_run.specs.Sessions.{IsMarkBefore, IsNotYet, Takes, TakesEvent, TriesLemma};
-ghost use Rattle.nq_run.specs.Spelled.{IsSpelledEvent, IsSpelledLemma};
-ghost use Rattle.nq_run.specs.Steps.{lemma_answer};
+ghost use Rattle.nq_run.specs.HistoryView.{history_of, HasSpelledTerm, SessionStands};
+ghost use Rattle.nq_run.specs.Sessions.{IsAdded, IsMarkBefore, IsUntaken, Takes, TakesEvent};
+ghost use Rattle.nq_spelling.specs.SpelledEvents.{IsSpelledEvent};
+ghost use Rattle.nq_answers.specs.Steps.{not_yet, refused};
 
-use crate::answers::{name_in_use, not_yet, told, too_many_events};
-use crate::proving::{block_of, try_goal, with_lemma};
-use nq_bank::{Bank, Mark, Sym, TermId};
+use crate::answers::{not_yet, told, too_many_events};
+use crate::proving::{Conjecture, block_of};
+use nq_bank::{Bank, Mark};
 use nq_block::Closing;
-use nq_comment::{FormAnswer, Quick};
+use nq_comment::FormAnswer;
 use nq_event::{Event, parse_event};
-use nq_history::{Class, EVENT_LIMIT, History};
-use nq_kernel::Log;
+use nq_history::{EVENT_LIMIT, Entry, History, PushFault};
+use nq_kernel::{Log, Prover};
 use nq_logtext::Text;
 use nq_sexp::Sexp;
+use nq_spelling::events_are_spelled;
 use std::alloc::{AllocError, Global};
 
 /// The history of a run, and the terms that its events speak of.
 #[derive(Drop)]
 pub(crate) struct Session {
-    bank: Bank,
-    history: History,
+    pub(crate) bank: Bank,
+    pub(crate) history: History,
+}
+
+/// A form that is answered, and how: with or without the block of what it claims, and how many steps its event may take. The
+/// mark was taken before the form was read.
+#[derive(Clone, Copy)]
+pub(crate) struct Given<'f, 'a> {
+    pub(crate) form: &'f Sexp<'a>,
+    pub(crate) mark: Mark,
+    pub(crate) logging: bool,
+    pub(crate) steps: u64,
 }
 
 /// What a form was answered: the history after it, and the text of its block in the log.
@@ -47,209 +63,219 @@ impl Session {
     pub(crate) fn ground(alloc: Global) -> Result<Session, AllocError>
         ensures none { IfOk result (λ s. history_of s ≡ []) }
         ensures stands { IfOk result SessionStands }
+        ensures whole { IfOk result (λ s. take ground_length s.history ≡ s.history) }
     {
+        events_are_spelled();
         let mut bank = Bank::new(alloc)?;
         let history = History::ground(&mut bank)?;
         Ok(Session { bank, history })
     }
 
-    /// Answers a form, and takes its event where it is accepted or proved. With `logging` it gives the block of what the
-    /// event claims.
-    pub(crate) fn take(
+    /// Answers a form, and takes its event where it is accepted, proved or undone. With `logging` it gives the block of what the
+    /// event claims. What a form made in the bank is given back, but for what its entry holds.
+    pub(crate) fn take<P: Prover>(
         self,
         alloc: Global,
+        prover: &mut P,
         form: &Sexp<'_>,
         logging: bool,
         steps: u64,
     ) -> Result<Taken, AllocError>
         requires stands { SessionStands self }
+        requires learnt { P.has_learnt prover.old self.history }
         requires spelled { IsSpelled (tree form.now) }
-        ensures { IfOk result (Takes (history_of self) (tree form.now) logging) }
+        requires narrow { IsNarrow (2 ^ 25) (tree form.now) }
+        ensures takes { IfOk result (Takes (history_of self) (tree form.now) logging) }
+        ensures learnt { IfOk result (λ r. P.has_learnt prover.new r.session.history) }
     {
+        events_are_spelled();
         let Session { mut bank, history } = self;
         let mark = bank.mark();
         match parse_event(&mut bank, &history, form) {
             Ok(event) => {
                 let session = Session { bank, history };
-                session.take_event(alloc, mark, form, &event, logging, steps)
+                let given = Given {
+                    form,
+                    mark,
+                    logging,
+                    steps,
+                };
+                session.take_event(alloc, prover, given, event)
             }
             Err(fault) => {
                 let answer = told(fault)?;
                 let session = Session { bank, history };
-                Ok(session.untaken(alloc, answer))
+                Ok(session.untaken(alloc, mark, answer))
             }
         }
     }
 
-    /// Takes the event of a form that isn't refused. The mark is the one from before it was read.
-    fn take_event(
+    /// Takes the event of a form that isn't refused.
+    fn take_event<P: Prover>(
         self,
         alloc: Global,
-        mark: Mark,
-        form: &Sexp<'_>,
-        event: &Event,
-        logging: bool,
-        steps: u64,
+        prover: &mut P,
+        given: Given<'_, '_>,
+        event: Event,
     ) -> Result<Taken, AllocError>
         requires stands { SessionStands self }
-        requires mark { IsMarkBefore self.bank self.history mark }
-        requires event { EventStands self.bank event.now }
-        requires spelled { IsSpelledEvent (history_of self) (event_at self.bank event.now) }
-        ensures { IfOk result (TakesEvent (history_of self) (tree form.now) (event_at self.bank event.now) logging) }
+        requires learnt { P.has_learnt prover.old self.history }
+        requires mark { IsMarkBefore self.bank self.history given.mark }
+        requires event { EventStands self.bank event }
+        requires spelled { IsSpelledEvent (history_of self) (event_read self.bank event) }
+        ensures takes { IfOk result (TakesEvent (history_of self) (tree given.entry.form.now) (event_read self.bank event) given.entry.logging) }
+        ensures learnt { IfOk result (λ r. P.has_learnt prover.new r.session.history) }
     {
         match event {
-            Event::BootStrap => self.boot_strap(alloc, logging),
-            Event::ProveLemma(name, classes, goal, _) => {
-                self.prove_lemma(
+            Event::BootStrap => self.boot_strap(alloc, prover, given.logging),
+            Event::AddShell(shell) => self.add_shell(alloc, prover, given, shell),
+            Event::Dcl(name, formals) => self.declare(
+                alloc,
+                prover,
+                given,
+                name,
+                formals.as_slice(),
+            ),
+            Event::Defn(name, formals, body, measures) => {
+                self.define(
                     alloc,
-                    mark,
-                    form,
-                    *name,
-                    classes.as_slice(),
-                    *goal,
-                    logging,
-                    steps,
+                    prover,
+                    given,
+                    name,
+                    formals,
+                    body,
+                    measures.as_slice(),
                 )
             }
-            Event::Skipped => Ok(self.untaken(alloc, FormAnswer::Skipped)),
-            Event::AddShell(_) => self.not_yet(alloc, form),
-            Event::Dcl(_, _) => self.not_yet(alloc, form),
-            Event::Defn(_, _, _, _) => self.not_yet(alloc, form),
-            Event::AddAxiom(_, _, _) => self.not_yet(alloc, form),
-            Event::Toggle(_, _, _) => self.not_yet(alloc, form),
-            Event::Undo(_) => self.not_yet(alloc, form),
+            Event::AddAxiom(name, classes, axiom) => {
+                self.add_axiom(alloc, prover, given, name, classes.as_slice(), axiom)
+            }
+            Event::ProveLemma(name, classes, goal, hints) => {
+                let lemma = Conjecture {
+                    name,
+                    goal,
+                    hints: &hints,
+                };
+                self.prove_lemma(alloc, prover, given, lemma, classes.as_slice())
+            }
+            Event::Toggle(name, old, disabled) => self.toggle(
+                alloc, prover, given, name, old, disabled,
+            ),
+            Event::Undo(name) => self.undo(alloc, prover, given, name),
+            Event::Skipped => Ok(self.untaken(alloc, given.mark, FormAnswer::Skipped)),
         }
     }
 
-    /// The session as it is, for a form whose event is not taken.
-    fn untaken(self, alloc: Global, answer: FormAnswer) -> Taken
-        ensures { result ≡ record { session = self; answer = answer; block = [] } }
+    /// The session as it was before the form, for one whose event is not taken. What the form made in the bank is given back.
+    pub(crate) fn untaken(self, alloc: Global, mark: Mark, answer: FormAnswer) -> Taken
+        requires stands { SessionStands self }
+        requires mark { IsMarkBefore self.bank self.history mark }
+        ensures { IsUntaken self (answer_of answer) result }
     {
+        let Session { mut bank, history } = self;
+        bank.release(mark);
         Taken {
-            session: self,
+            session: Session { bank, history },
             answer,
             block: Text::new(alloc),
         }
     }
 
-    /// The session as it is, for a form that asks for what isn't built yet.
-    fn not_yet(self, alloc: Global, form: &Sexp<'_>) -> Result<Taken, AllocError>
-        ensures { IfOk result (IsNotYet self (tree form.now)) }
+    /// The session as it was before a form that asks for what isn't built yet.
+    pub(crate) fn not_yet(
+        self,
+        alloc: Global,
+        mark: Mark,
+        form: &Sexp<'_>,
+    ) -> Result<Taken, AllocError>
+        requires stands { SessionStands self }
+        requires mark { IsMarkBefore self.bank self.history mark }
+        ensures { IfOk result (IsUntaken self (not_yet (tree form.now))) }
     {
         let answer = not_yet(alloc, form)?;
-        Ok(self.untaken(alloc, answer))
+        Ok(self.untaken(alloc, mark, answer))
     }
 
-    /// The ground history again.
-    fn boot_strap(self, alloc: Global, logging: bool) -> Result<Taken, AllocError>
-        requires { SessionStands self }
-        ensures { (form : Form) → IfOk result (TakesEvent (history_of self) form model.BootStrap logging) }
+    /// The refusal of a new event where there is no room for one.
+    pub(crate) fn room_answer(&self, alloc: Global) -> Result<Option<FormAnswer>, AllocError>
+        ensures { IfOk result (λ answer. option_map answer_of answer ≡ refused (room_refusal (history_of self.now))) }
     {
-        let log = Log::new(alloc);
-        let closing = Closing::BootStrap;
-        let block = block_of(alloc, logging, &self.bank, &self.history, &log, &closing)?;
-        let session = Session::ground(alloc)?;
-        Ok(Taken {
-            session,
-            answer: FormAnswer::Accepted,
-            block,
-        })
-    }
-
-    /// Why a lemma isn't tried: its name is in use, it has rule classes, which aren't built yet, or there is no room.
-    fn lemma_answer(
-        &self,
-        alloc: Global,
-        form: &Sexp<'_>,
-        name: Sym,
-        classes: &[Class],
-    ) -> Result<Option<FormAnswer>, AllocError>
-        requires stands { SessionStands self.now }
-        requires name { IsNamed self.now.bank name }
-        ensures { IfOk result (λ answer. option_map answer_of answer
-            ≡ lemma_answer (history_of self.now) (tree form.now) (text_at self.now.bank name) (map class_of classes.now)) }
-    {
-        if self.history.in_use(&self.bank, name) {
-            return Ok(Some(name_in_use(alloc, self.bank.text(name))?));
-        }
-        if !classes.is_empty() {
-            return Ok(Some(not_yet(alloc, form)?));
-        }
         if self.history.past_ground().len() >= EVENT_LIMIT {
             return Ok(Some(too_many_events(alloc)?));
         }
         Ok(None)
     }
 
-    /// The lemma is tried, unless something keeps it from that, and added where it is proved.
-    fn prove_lemma(
-        self,
+    /// The block of an event that needs no proof; no text where no log is written.
+    pub(crate) fn block(
+        &self,
         alloc: Global,
-        mark: Mark,
-        form: &Sexp<'_>,
-        name: Sym,
-        classes: &[Class],
-        goal: TermId,
         logging: bool,
-        steps: u64,
-    ) -> Result<Taken, AllocError>
-        requires stands { SessionStands self }
-        requires mark { IsMarkBefore self.bank self.history mark }
-        requires name { IsNamed self.bank name }
-        requires goal { Stands self.bank goal }
-        requires spelled { IsSpelledLemma (history_of self) (text_at self.bank name) (term_at self.bank goal) }
-        ensures { (hints : model.Hints) → IfOk result (TakesEvent (history_of self) (tree form.now)
-            (model.ProveLemma (text_at self.bank name) (map class_of classes.now) (term_at self.bank goal) hints) logging) }
+        closing: &Closing,
+    ) -> Result<Text, AllocError>
+        requires session { SessionStands self.now }
+        requires stands { ClosingStands self.now.bank closing.now }
+        requires closing { CanClose self.now.bank self.now.history [] closing.now }
+        ensures { IfOk result (λ text. logging ≡ true → IsBlock (history_of self.now) (claim_at self.now.bank closing.now) text) }
     {
-        match self.lemma_answer(alloc, form, name, classes)? {
-            Some(answer) => Ok(self.untaken(alloc, answer)),
-            None => self.try_lemma(alloc, mark, form, name, goal, logging, steps),
-        }
+        let log = Log::new(alloc);
+        block_of(alloc, logging, &self.bank, &self.history, &log, closing)
     }
 
-    /// The lemma is proved and added, or answered as what isn't built yet.
-    fn try_lemma(
+    /// The session with one event more, which the prover learns.
+    pub(crate) fn added<P: Prover>(
         self,
-        alloc: Global,
-        mark: Mark,
-        form: &Sexp<'_>,
-        name: Sym,
-        goal: TermId,
-        logging: bool,
-        steps: u64,
+        prover: &mut P,
+        entry: Entry,
+    ) -> Result<Session, AllocError>
+        requires stands { SessionStands self }
+        requires learnt { P.has_learnt prover.old self.history }
+        requires mark { IsMarkBefore self.bank self.history entry.mark }
+        requires entry { EntryStands self.bank entry }
+        requires free { IsFree (history_of self) (text_at self.bank entry.name) }
+        requires symbols { Each (λ n. IsTrue (is_symbol n)) (event_names (event_at self.bank entry)) }
+        requires few { length (event_names (event_at self.bank entry)) ≤ 24 }
+        requires term { HasSpelledTerm (event_at self.bank entry) }
+        ensures added { IfOk result (IsAdded self entry) }
+        ensures learnt { IfOk result (λ s. P.has_learnt prover.new s.history) }
+    {
+        events_are_spelled();
+        let Session { bank, mut history } = self;
+        match history.push(&bank, entry) {
+            Ok(()) => {}
+            Err(PushFault::Memory) => return Err(AllocError),
+            Err(PushFault::NameInUse) => unreachable!(),
+            Err(PushFault::TooManyEvents) => unreachable!(),
+        }
+        prover.learn(&bank, &history)?;
+        Ok(Session { bank, history })
+    }
+
+    /// What is answered where an event is accepted that needs no proof.
+    pub(crate) fn accepted<P: Prover>(
+        self,
+        prover: &mut P,
+        entry: Entry,
+        block: Text,
     ) -> Result<Taken, AllocError>
         requires stands { SessionStands self }
-        requires mark { IsMarkBefore self.bank self.history mark }
-        requires name { IsNamed self.bank name }
-        requires goal { Stands self.bank goal }
-        requires spelled { IsSpelledLemma (history_of self) (text_at self.bank name) (term_at self.bank goal) }
-        requires free { IsFree (history_of self) (text_at self.bank name) }
-        ensures { IfOk result (TriesLemma (history_of self) (tree form.now) (text_at self.bank name) (term_at self.bank goal) logging) }
+        requires learnt { P.has_learnt prover.old self.history }
+        requires mark { IsMarkBefore self.bank self.history entry.mark }
+        requires entry { EntryStands self.bank entry }
+        requires free { IsFree (history_of self) (text_at self.bank entry.name) }
+        requires symbols { Each (λ n. IsTrue (is_symbol n)) (event_names (event_at self.bank entry)) }
+        requires few { length (event_names (event_at self.bank entry)) ≤ 24 }
+        requires term { HasSpelledTerm (event_at self.bank entry) }
+        ensures added { IfOk result (λ r. IsAdded self entry r.session) }
+        ensures answer { IfOk result (λ r. r.answer ≡ answers.Accepted) }
+        ensures block { IfOk result (λ r. r.block ≡ block) }
+        ensures learnt { IfOk result (λ r. P.has_learnt prover.new r.session.history) }
     {
-        let Session { bank, history } = self;
-        let tried = try_goal(alloc, bank, &history, goal, steps)?;
-        match tried.line {
-            Some(line) => {
-                let closing = Closing::Lemma(name, goal, line);
-                let block = block_of(alloc, logging, &tried.bank, &history, &tried.log, &closing)?;
-                let history = with_lemma(&tried.bank, history, mark, name, goal)?;
-                let session = Session {
-                    bank: tried.bank,
-                    history,
-                };
-                Ok(Taken {
-                    session,
-                    answer: FormAnswer::Proved(Quick::Taut),
-                    block,
-                })
-            }
-            None => {
-                let session = Session {
-                    bank: tried.bank,
-                    history,
-                };
-                session.not_yet(alloc, form)
-            }
-        }
+        let session = self.added(prover, entry)?;
+        Ok(Taken {
+            session,
+            answer: FormAnswer::Accepted,
+            block,
+        })
     }
 }

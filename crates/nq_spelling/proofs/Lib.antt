@@ -1,3 +1,13 @@
 pub mod TermVariables
 pub mod FormVariables
 pub mod SpelledTerms
+pub mod Tests
+pub mod NameCounts
+pub mod PartSpelling
+pub mod FunctionSpelling
+pub mod FormulaSpelling
+pub mod HintShapes
+pub mod HintSpelling
+pub mod ToggleSpelling
+pub mod OutlineSpelling
+pub mod EventSpelling

@@ -17,6 +17,7 @@ mod words;
 
 use nq_check::{CheckFault, Checked, check};
 use nq_io::{Sink, SinkFault, Source};
+use nq_quick::FirstPass;
 use nq_run::run_events;
 use std::alloc::Global;
 pub use words::{Command, WordsFault, read_command};
@@ -116,7 +117,8 @@ fn run_status<S: Source, O: Sink, L: Sink>(
     ensures range { result ≤ 7 }
     ensures not_words { result ≡ 2 → ⊥ }
 {
-    match run_events(alloc, src, comment, log, logging, steps) {
+    let mut prover = FirstPass::new();
+    match run_events(alloc, src, comment, log, logging, &mut prover, steps) {
         Ok(ended) => ended.status(),
         Err(fault) => fault.status(),
     }

@@ -153,6 +153,67 @@ fn a_changed_log_is_refused_at_its_first_wrong_line(rt: HostRuntime) -> Result<(
     Ok(())
 }
 
+// Each row is the lines between the first and the last, and what is written for them.
+#[test]
+fn a_log_of_definitions_is_accepted(rt: HostRuntime) -> Result<(), Fail> {
+    let alloc = rt.alloc();
+    for (lines, want) in [
+        (
+            b"V X\nDEFN G 1 1\n".as_slice(),
+            b"DEFN G: (EQUAL (G X) X)\nAccepted, 1 claims.\n".as_slice(),
+        ),
+        (
+            b"V X\nV Y\nA IF 1 2 1\nDEFN G 3 2 1\n",
+            b"DEFN G: (EQUAL (G Y X) (IF X Y X))\nAccepted, 1 claims.\n",
+        ),
+        (
+            b"V X\nDEFN G 1 1\nV X\nA G 1\nA EQUAL 2 1\nAXIOM G 1 0\nLEMMA OPENED 3 1\n",
+            b"DEFN G: (EQUAL (G X) X)\nLEMMA OPENED: (EQUAL (G X) X)\nAccepted, 2 claims.\n",
+        ),
+        (
+            b"V X\nDEFN G 1 1\nUNDO G\nN 0\nDEFN G 1\n",
+            b"DEFN G: (EQUAL (G X) X)\nUNDO G\nDEFN G: (EQUAL (G) 0)\nAccepted, 3 claims.\n",
+        ),
+    ] {
+        let mut text = b"NQTHM-LOG 1\n".to_vec(alloc)?;
+        text.extend_from_slice(lines)?;
+        text.extend_from_slice(b"END\n")?;
+        let (status, out) = checked(alloc, text.as_slice(), 3)?;
+        assert_eq!(rt; out.as_slice(), want);
+        assert_eq!(rt; status, 0);
+    }
+    Ok(())
+}
+
+// Each row is the lines behind the first, of which the last is not allowed, and the claims before it.
+#[test]
+fn a_log_of_no_definition_is_refused(rt: HostRuntime) -> Result<(), Fail> {
+    let alloc = rt.alloc();
+    for (lines, claims) in [
+        // a name in use, a formal that stands twice, one that is no variable, and another variable
+        ([b"V X".as_slice(), b"DEFN PLUS 1 1"].as_slice(), NO_CLAIM),
+        (&[b"V X", b"DEFN G 1 1 1"], NO_CLAIM),
+        (&[b"V X", b"N 0", b"DEFN G 1 1 2"], NO_CLAIM),
+        (&[b"V X", b"V Y", b"DEFN G 1 2"], NO_CLAIM),
+        // the function is not known in its own body, and a block may not begin with it yet
+        (&[b"V X", b"A G 1"], NO_CLAIM),
+        (&[b"F G 1"], NO_CLAIM),
+        // it is known no more behind its undoing
+        (
+            &[b"V X", b"DEFN G 1 1", b"UNDO G", b"V X", b"A G 1"],
+            b"DEFN G: (EQUAL (G X) X)\nUNDO G\n",
+        ),
+    ] {
+        let mut text = b"NQTHM-LOG 1\n".to_vec(alloc)?;
+        text.extend_from_slice(text_of(alloc, lines)?.as_slice())?;
+        let (status, out) = checked(alloc, text.as_slice(), 7)?;
+        let want = refusal(alloc, claims, lines.len() as u64 + 1, b"not allowed")?;
+        assert_eq!(rt; out.as_slice(), want.as_slice());
+        assert_eq!(rt; status, 1);
+    }
+    Ok(())
+}
+
 #[test]
 fn a_written_log_is_accepted(rt: HostRuntime) -> Result<(), Fail> {
     let alloc = rt.alloc();

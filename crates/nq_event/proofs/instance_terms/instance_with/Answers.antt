@@ -1,7 +1,8 @@
 use Rattle.std.proofs.Common.{List, ℕ, map, ap, ◌∙◌}
 use Rattle.nq_logic.specs.Terms.{Term}
 use Rattle.nq_events.specs.Events as model
-use Rattle.nq_event.specs.EventsAt.{pair_at, PairStands}
+use Rattle.nq_clause.specs.Substitution.{PairStands}
+use Rattle.nq_event.specs.EventsAt.{pair_at}
 use Rattle.nq_event.proofs.GrownLemmas.{pairs_stay, all_keep, map_grown}
 use Rattle.nq_event.proofs.instance_terms.instance_with.Goals as goal
 

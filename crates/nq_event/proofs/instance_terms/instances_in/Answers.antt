@@ -10,7 +10,8 @@ use Rattle.nq_history.proofs.HistoryLemmas.{events_at-grown, history_grown}
 use Rattle.nq_events.specs.WrittenHints.{WrittenInstance, instance_in}
 use Rattle.nq_events.specs.TermRefusals.{arity_of, instances_forms, pair_forms, terms_refusal}
 use Rattle.nq_events.specs.HintTerms.{instance_given}
-use Rattle.nq_event.specs.EventsAt.{instance_at, InstanceStands}
+use Rattle.nq_history.specs.Hints.{InstanceStands}
+use Rattle.nq_event.specs.EventsAt.{instance_at}
 use Rattle.nq_event.specs.Hints.{instance_at as outline_at, instances_at, no_instance}
 use Rattle.nq_event.specs.Reads.{value_or}
 use Rattle.nq_event.proofs.instance_terms.instances_in.Goals as goal

@@ -6,7 +6,8 @@ use Rattle.nq_history.specs.Events.{events_at, HistoryStands}
 use Rattle.nq_events.specs.WrittenHints.{instance_in}
 use Rattle.nq_events.specs.TermRefusals.{arity_of, instances_forms, terms_refusal}
 use Rattle.nq_events.specs.HintTerms.{instance_given}
-use Rattle.nq_event.specs.EventsAt.{instance_at, InstanceStands}
+use Rattle.nq_history.specs.Hints.{InstanceStands}
+use Rattle.nq_event.specs.EventsAt.{instance_at}
 use Rattle.nq_event.specs.Hints.{instances_at, no_instance}
 use Rattle.nq_event.specs.Reads.{value_or}
 use Rattle.nq_event.proofs.GrownLemmas.{IsReadSoFar}

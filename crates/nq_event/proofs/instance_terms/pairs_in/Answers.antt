@@ -10,7 +10,8 @@ use Rattle.nq_history.proofs.HistoryLemmas.{events_at-grown, history_grown}
 use Rattle.nq_events.specs.WrittenHints.{pair_in}
 use Rattle.nq_events.specs.TermRefusals.{arity_of, pair_forms, term_refusal, terms_refusal}
 use Rattle.nq_events.specs.HintTerms.{pair_given}
-use Rattle.nq_event.specs.EventsAt.{pair_at, PairStands}
+use Rattle.nq_clause.specs.Substitution.{PairStands}
+use Rattle.nq_event.specs.EventsAt.{pair_at}
 use Rattle.nq_event.specs.Hints.{no_pair, pairs_at}
 use Rattle.nq_event.specs.Reads.{value_or}
 use Rattle.nq_event.proofs.instance_terms.pairs_in.Goals as goal

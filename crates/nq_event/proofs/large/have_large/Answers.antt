@@ -6,7 +6,8 @@ use Rattle.nq_history.specs.Events.{events_at}
 use Rattle.nq_history.proofs.HistoryLemmas.{events_at-grown, history_grown}
 use Rattle.nq_events.specs.Refusals.{Refusal, OfLanguage}
 use Rattle.nq_events.specs.HintRefusals.{instance_term, instances_refusal, is_large_instance}
-use Rattle.nq_event.specs.EventsAt.{instance_at, InstanceStands}
+use Rattle.nq_history.specs.Hints.{InstanceStands}
+use Rattle.nq_event.specs.EventsAt.{instance_at}
 use Rattle.nq_event.proofs.GrownLemmas.{instances_stay, all_keep}
 use Rattle.nq_event.proofs.InstanceLemmas.{instance_here}
 use Rattle.nq_event.proofs.large.have_large.Goals as goal

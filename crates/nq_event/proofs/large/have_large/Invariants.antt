@@ -4,7 +4,8 @@ use Rattle.std.specs.Prelude.{All}
 use Rattle.nq_bank.specs.Content.{Grows}
 use Rattle.nq_history.specs.Events.{events_at, HistoryStands}
 use Rattle.nq_events.specs.HintRefusals.{instances_refusal}
-use Rattle.nq_event.specs.EventsAt.{instance_at, InstanceStands}
+use Rattle.nq_history.specs.Hints.{InstanceStands}
+use Rattle.nq_event.specs.EventsAt.{instance_at}
 use Rattle.nq_event.proofs.large.have_large.Given as goal
 
 abbrev pub invariant-loop-instance : goal.invariant-loop-instance

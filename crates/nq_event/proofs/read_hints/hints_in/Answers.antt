@@ -7,7 +7,8 @@ use Rattle.nq_events.specs.Refusals.{OfLanguage, BadHint}
 use Rattle.nq_events.specs.TermRefusals.{arity_of, first, hints_forms, terms_refusal}
 use Rattle.nq_events.specs.HintTerms.{instances_given}
 use Rattle.nq_events.specs.HintRefusals.{hints_refusal, instances_refusal}
-use Rattle.nq_event.specs.EventsAt.{instance_at, InstanceStands}
+use Rattle.nq_history.specs.Hints.{InstanceStands}
+use Rattle.nq_event.specs.EventsAt.{instance_at}
 use Rattle.nq_event.specs.Hints.{hints_at}
 use Rattle.nq_event.specs.HintSums.{bad_hint}
 use Rattle.nq_event.specs.Readings.{IsToldOf}

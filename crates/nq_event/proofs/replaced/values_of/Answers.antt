@@ -5,7 +5,8 @@ use Rattle.nq_bank.specs.declared.node.Sym.{Sym}
 use Rattle.nq_bank.specs.Content.{Stands, term_at, text_at}
 use Rattle.nq_bank.specs.Shells.{texts_at}
 use Rattle.nq_bank.proofs.Growth.{Grows-trans, text_at-grown}
-use Rattle.nq_event.specs.EventsAt.{pair_at, PairStands}
+use Rattle.nq_clause.specs.Substitution.{PairStands}
+use Rattle.nq_event.specs.EventsAt.{pair_at}
 use Rattle.nq_event.proofs.GrownLemmas.{pairs_stay, terms_stay, all_keep, all_more, map_grown, map_pushed}
 use Rattle.nq_event.proofs.replaced.values_of.Goals as goal
 

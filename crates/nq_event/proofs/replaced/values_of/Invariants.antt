@@ -4,7 +4,8 @@ use Rattle.std.specs.Prelude.{All}
 use Rattle.nq_logic.specs.Terms.{value_at}
 use Rattle.nq_bank.specs.Content.{Grows, Stands, terms_at}
 use Rattle.nq_bank.specs.Shells.{texts_at}
-use Rattle.nq_event.specs.EventsAt.{pair_at, PairStands}
+use Rattle.nq_clause.specs.Substitution.{PairStands}
+use Rattle.nq_event.specs.EventsAt.{pair_at}
 use Rattle.nq_event.proofs.replaced.values_of.Given as goal
 
 abbrev pub invariant-loop-formal : goal.invariant-loop-formal

@@ -9,7 +9,8 @@ use Rattle.nq_events.specs.Refusals.{out_of_scope}
 use Rattle.nq_events.specs.TermRefusals.{arity_of, first, hints_forms, term_refusal, terms_refusal, types_refusal}
 use Rattle.nq_events.specs.HintTerms.{hints_given, term_in}
 use Rattle.nq_events.specs.Reading.{classes_of, given_refusal}
-use Rattle.nq_event.specs.EventsAt.{hints_at as hints_of, HintsStand}
+use Rattle.nq_history.specs.Hints.{HintsStand}
+use Rattle.nq_event.specs.EventsAt.{hints_at as hints_of}
 use Rattle.nq_event.specs.Hints.{hints_at}
 use Rattle.nq_event.specs.Readings.{IsReadAs, IsToldOf}
 use Rattle.nq_event.specs.Shapes.{types_at}

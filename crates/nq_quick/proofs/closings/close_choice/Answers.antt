@@ -3,7 +3,7 @@ use Rattle.nq_bank.specs.Content.{term_at, terms_at}
 use Rattle.nq_rule.proofs.Made.{for_ok}
 use Rattle.nq_kernel.specs.declared.work.Work.{Work}
 use Rattle.nq_quick.specs.Assignments.{truth_with}
-use Rattle.nq_quick.specs.Propositions.{proposition_of}
+use Rattle.nq_fragments.specs.Propositions.{proposition_of}
 use Rattle.nq_quick.specs.Choices.{branch_of}
 use Rattle.nq_quick.specs.Lines.{if_at}
 use Rattle.nq_quick.specs.Decisions.{Decides, truth_at}

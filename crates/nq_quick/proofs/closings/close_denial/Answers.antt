@@ -5,7 +5,7 @@ use Rattle.nq_rule.proofs.Made.{for_ok}
 use Rattle.nq_kernel.specs.declared.work.Work.{Work}
 use Rattle.nq_kernel.proofs.HeldLines.{holds_stands}
 use Rattle.nq_quick.specs.Assignments.{truth_with}
-use Rattle.nq_quick.specs.Propositions.{proposition_of}
+use Rattle.nq_fragments.specs.Propositions.{proposition_of}
 use Rattle.nq_quick.specs.Decisions.{Decides, truth_at}
 use Rattle.nq_quick.proofs.LineLemmas.{CutsTo, grown_trans, grown_refl, only_stands}
 use Rattle.nq_quick.proofs.ChoiceLemmas.{line_stands_grown}

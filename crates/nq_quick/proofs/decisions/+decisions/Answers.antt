@@ -9,7 +9,7 @@ use Rattle.nq_quick.specs.declared.assignments.Assignment.{Assignment}
 use Rattle.nq_quick.specs.declared.heads.Head.TheVariants as head
 use Rattle.nq_quick.specs.declared.patterns.Case.{Case}
 use Rattle.nq_quick.specs.Assignments.{truth_with}
-use Rattle.nq_quick.specs.Propositions.{proposition_of}
+use Rattle.nq_fragments.specs.Propositions.{proposition_of}
 use Rattle.nq_quick.specs.Choices.{branch_of}
 use Rattle.nq_quick.specs.Decisions.{CanDecide, Decides, IsCaseAssignment, truth_at, weight_at}
 use Rattle.nq_quick.specs.Lines.{LineHasOnly, Says}

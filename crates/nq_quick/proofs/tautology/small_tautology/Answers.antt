@@ -1,9 +1,9 @@
 use Rattle.std.proofs.Common.{◌≤◌, ◌∙◌, sym, arith, ap, length, List, []}
 use Rattle.nq_bank.specs.declared.node.TermId.{TermId}
 use Rattle.nq_bank.specs.Content.{term_at, terms_at}
-use Rattle.nq_quick.specs.Propositions.{proposition_of}
+use Rattle.nq_fragments.specs.Propositions.{proposition_of}
 use Rattle.nq_quick.specs.Assignments.{true_in_all}
-use Rattle.nq_quick.specs.Tautologies.{other_limit}
+use Rattle.nq_fragments.specs.Tautologies.{other_limit}
 use Rattle.nq_quick.proofs.TautologyLemmas.{is_tautology, not_always_true}
 use Rattle.nq_quick.proofs.tautology.small_tautology.Goals as goal
 

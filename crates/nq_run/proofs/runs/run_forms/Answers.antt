@@ -1,4 +1,4 @@
-use Rattle.std.proofs.Common.{rules, ◌≡◌, ◌+◌, ◌<◌, true, ap, refl, sym, arith, ◌∙◌}
+use Rattle.std.proofs.Common.{rules, ◌≡◌, ◌≤◌, ◌+◌, ◌^◌, ◌<◌, true, ap, refl, sym, subst, arith, length, ◌∙◌}
 use Rattle.nq_form.specs.Form.{end, next, push}
 use Rattle.nq_sexp.specs.Tree.{tree}
 use Rattle.nq_sexp.specs.Held.{Reading}
@@ -7,6 +7,7 @@ use Rattle.nq_comment.specs.Totals.{Totals, totals_in}
 use Rattle.nq_run.specs.HistoryView.{history_of}
 use Rattle.nq_run.proofs.RunLemmas.{Ran-start, Ran-more, Ran-full, Ran-stopped, begun_interrupted, begun_of, forms_after, on_err, ran_as, stopped_as, turned_as}
 use Rattle.nq_run.proofs.LogLemmas.{logs_within_none}
+use Rattle.nq_run.proofs.NarrowLemmas.{first_narrow}
 use Rattle.nq_run.proofs.SpelledLemmas.{items_spelled}
 use Rattle.nq_run.proofs.runs.run_forms.Goals as goal
 
@@ -34,6 +35,8 @@ loop-form-init g c =
       c.in_ok-begin.ensures.same,
       c.in_ok-begin.ensures.bound,
       c.in_ok-begin.ensures.alone,
+      subst (g.P.Prover.has_learnt c.args.prover.now) (c.in_ok-session.ensures.whole)
+          (c.requires.learnt c.in_ok-session.session.bank c.in_ok-session.session.history (c.in_ok-session.ensures.stands).history),
     )
 
 pub returns-in_err-turn-in-Ok-Some-clause-full : goal.returns-in_err-turn-in-Ok-Some-clause-full
@@ -93,6 +96,13 @@ turn-requires-clause-spelled g c =
     let found = rw c.in-Ok-Some.field-0-is at c.in-Ok-Some.ensures.form in
     (items_spelled 500 found.text (next (tree c.in-Ok-Some.form) end) found.is.spelled).0
 
+-- and it has no list that is too long
+pub turn-requires-clause-narrow : goal.turn-requires-clause-narrow
+turn-requires-clause-narrow g c =
+    let found = rw c.in-Ok-Some.field-0-is at c.in-Ok-Some.ensures.form in
+    let few : length found.text ≤ 2 ^ 25 = omega (arith, (found.taken).count, (found.taken).within) in
+    first_narrow (2 ^ 25) 500 found.text (tree c.in-Ok-Some.form) found.is.spelled few
+
 pub loop-form-smaller : goal.loop-form-smaller
 loop-form-smaller g c =
     let found = rw c.in-Ok-Some.field-0-is at c.in-Ok-Some.ensures.form in
@@ -125,4 +135,5 @@ loop-form-preserved g c =
       told.same ∙ c.loop-form.invariant.7,
       told.bound,
       λ off. told.alone (c.loop-form.invariant.7 ∙ off) ∙ c.loop-form.invariant.9 off,
+      told.learnt,
     )

@@ -5,11 +5,11 @@ use Rattle.nq_comment.specs.ReportViews.{answer_of, text_of}
 use Rattle.nq_comment.specs.Text.{lines_of_report}
 use Rattle.nq_comment.specs.Totals.{totals_in, with_kind}
 use Rattle.nq_comment.specs.declared.kind.Kind.{Kind}
-use Rattle.nq_run.specs.Headers.{name_of, word_of}
+use Rattle.nq_answers.specs.Headers.{name_of, word_of}
 use Rattle.nq_run.specs.HistoryView.{history_of}
 use Rattle.nq_run.proofs.LogLemmas.{logs_within_none, within_whole}
 use Rattle.nq_run.proofs.RunLemmas.{appends_as, log_within_as, logs_as, on_err, within_as}
-use Rattle.nq_run.proofs.TakingLemmas.{answered_as, answered_here, answered_logging, reported_as, reports_alike}
+use Rattle.nq_run.proofs.TurnLemmas.{answered_as, answered_here, answered_logging, reported_as, reports_alike}
 use Rattle.nq_run.proofs.runs.turn.Goals as goal
 
 pub returns-in_err-write_text-clause-stopped : goal.returns-in_err-write_text-clause-stopped
@@ -20,7 +20,7 @@ returns-in_err-write_text-clause-stopped g c =
     on_err c.from_residual.result _ (inr (record {
       report = reported_as form (answer_of taken.answer);
       block = taken.block;
-      answered = answered_here (history_of c.args.session) form c.args.progress.log.logging taken c.in-Ok.ensures;
+      answered = answered_here (history_of c.args.session) form c.args.progress.log.logging taken c.in-Ok.ensures.takes;
       text = within_as _ _ _ _ (c.in-Ok-render_report.ensures ∙ ap (λ (r : Report). lines_of_report (c.args.progress.counts.forms + 1) r) same) c.as_slice.ensures.value c.in_err-write_text.ensures.err;
       log = logs_within_none _ _ _ _ refl;
     }))
@@ -35,7 +35,7 @@ returns-then-is_full_with-clause-full g c e =
       record {
         report = reported_as form (answer_of taken.answer);
         block = taken.block;
-        answered = answered_logging _ _ _ _ c.args.progress.log.logging _ full.0 (answered_here (history_of c.args.session) form c.args.progress.log.logging taken c.in-Ok.ensures);
+        answered = answered_logging _ _ _ _ c.args.progress.log.logging _ full.0 (answered_here (history_of c.args.session) form c.args.progress.log.logging taken c.in-Ok.ensures.takes);
         full = subst (λ (t : List ℕ). 2 ^ 62 ≤ c.args.progress.log.count + length t) c.as_slice-2.ensures full.1;
         text = appends_as _ _ _ _ (c.in-Ok-render_report.ensures ∙ ap (λ (r : Report). lines_of_report (c.args.progress.counts.forms + 1) r) same) c.as_slice.ensures.value c.in_ok-write_text.ensures.ok;
         log = refl;
@@ -50,7 +50,7 @@ returns-then-is_full_with-clause-stopped g c =
     inr (record {
       report = reported_as form (answer_of taken.answer);
       block = taken.block;
-      answered = answered_here (history_of c.args.session) form c.args.progress.log.logging taken c.in-Ok.ensures;
+      answered = answered_here (history_of c.args.session) form c.args.progress.log.logging taken c.in-Ok.ensures.takes;
       text = within_whole _ _ _ (appends_as _ _ _ _ (c.in-Ok-render_report.ensures ∙ ap (λ (r : Report). lines_of_report (c.args.progress.counts.forms + 1) r) same)
           c.as_slice.ensures.value c.in_ok-write_text.ensures.ok);
       log = logs_within_none _ _ _ _ refl;
@@ -64,7 +64,7 @@ returns-in_err-log-clause-stopped g c =
     on_err c.from_residual-in_err-log.result _ (inr (record {
       report = reported_as form (answer_of taken.answer);
       block = taken.block;
-      answered = answered_here (history_of c.args.session) form c.args.progress.log.logging taken c.in-Ok.ensures;
+      answered = answered_here (history_of c.args.session) form c.args.progress.log.logging taken c.in-Ok.ensures.takes;
       text = within_whole _ _ _ (appends_as _ _ _ _ (c.in-Ok-render_report.ensures ∙ ap (λ (r : Report). lines_of_report (c.args.progress.counts.forms + 1) r) same)
           c.as_slice.ensures.value c.in_ok-write_text.ensures.ok);
       log = log_within_as _ _ _ _ _ c.as_slice-3.ensures c.in_err-log.ensures.err;
@@ -78,7 +78,7 @@ returns-clause-turned g c =
     record {
       report = reported_as form (answer_of taken.answer);
       block = taken.block;
-      answered = answered_as (history_of c.args.session) form c.args.progress.log.logging taken c.in-Ok.ensures;
+      answered = answered_as (history_of c.args.session) form c.args.progress.log.logging taken c.in-Ok.ensures.takes;
       totals = c.with.ensures ∙ ap (λ (k : Kind). with_kind k (totals_in c.args.progress.counts)) c.kind-kind.ensures;
       text = appends_as _ _ _ _ (c.in-Ok-render_report.ensures ∙ ap (λ (r : Report). lines_of_report (c.args.progress.counts.forms + 1) r) same) c.as_slice.ensures.value c.in_ok-write_text.ensures.ok;
       log = logs_as _ _ _ _ _ c.as_slice-3.ensures c.in_ok-log.ensures.ok;

@@ -1,17 +1,24 @@
-use Rattle.nq_run.proofs.SessionLemmas.{no_lines, no_rules}
+use Rattle.std.proofs.Common.{subst, sym}
+use Rattle.nq_run.specs.declared.session.Session.{Session}
+use Rattle.nq_run.proofs.SessionLemmas.{ground_stands, ground_within}
 use Rattle.nq_run.proofs.TakingLemmas.{grounded}
 use Rattle.nq_run.proofs.session.Session.boot_strap.Goals as goal
 
-pub block_of-requires-clause-legal : goal.block_of-requires-clause-legal
-block_of-requires-clause-legal c = no_lines c.args.self.bank c.args.self.history c.new-log.result c.new-log.ensures
+pub forget-requires : goal.forget-requires
+forget-requires g c = record {
+  entries = c.args.self.history;
+  learnt = c.requires.learnt;
+  within = ground_within c.args.self.bank c.args.self.history c.requires.stands.history;
+}
 
-pub block_of-requires-clause-over : goal.block_of-requires-clause-over
-block_of-requires-clause-over c = no_rules c.args.self.bank c.args.self.history c.new-log.result c.new-log.ensures
-
-pub block_of-requires-clause-names : goal.block_of-requires-clause-names
-block_of-requires-clause-names c = c.requires.symbols
-
-pub returns : goal.returns
-returns c =
+pub returns-clause-taken : goal.returns-clause-taken
+returns-clause-taken g c =
     λ form.
-    grounded c.args.self c.in_ok-session.session form c.args.logging c.in_ok-block.block c.in_ok-session.ensures.none c.in_ok-session.ensures.stands c.in_ok-block.ensures
+    let new : Session = record { bank = c.back_to_ground.new.bank; history = c.back_to_ground.new.self } in
+    let back = c.back_to_ground.ensures in
+    grounded c.args.self new form c.args.logging c.in_ok-block.block back.none
+    (ground_stands c.events_are_spelled.ensures.begin new back.stands_after back.marked_after back.none) c.in_ok-block.ensures
+
+pub returns-clause-learnt : goal.returns-clause-learnt
+returns-clause-learnt g c =
+    subst (g.P.Prover.has_learnt c.forget.new.self) (sym c.back_to_ground.ensures.history) (c.forget.ensures c.args.self.history c.requires.learnt)

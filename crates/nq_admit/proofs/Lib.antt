@@ -1,0 +1,3 @@
+mod TermLemmas
+mod FormalLemmas
+mod AdmissionLemmas

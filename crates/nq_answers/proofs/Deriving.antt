@@ -1,0 +1,210 @@
+-- Each lemma that is reported as proved is derivable, and each event that stands holds.
+use Rattle.std.proofs.Common.{◌≡◌, Bool, true, false, List, [], ◌∷◌, sym, subst, refl, inl, inr}
+use Rattle.std.specs.Prelude.{◌++◌, length, Option, None, Some, ⊤, if◌then◌else◌}
+use Rattle.nq_logic.specs.Terms.{Name, Term, IsTerm}
+use Rattle.nq_logic.specs.Formulas.{holds}
+use Rattle.nq_logic.specs.Derivations.{Derivable}
+use Rattle.nq_logic.specs.Histories.{History, RuleClass}
+use Rattle.nq_logic.specs.Histories as logic
+use Rattle.nq_logic.specs.Ground.{symbols_of}
+use Rattle.nq_logic.specs.Names.{event_name, is_in_use}
+use Rattle.nq_logic.specs.Admissible.{mentions, IsAdmissible}
+use Rattle.nq_form.specs.Form.{Form, Forms, end, dotted, next}
+use Rattle.nq_log.specs.States.{Adds, Undoes}
+use Rattle.nq_log.specs.Laws.{EventHolds, IsSound}
+use Rattle.nq_log.proofs.Events.{sound_after}
+use Rattle.nq_comment.specs.Reports.{Answer, Accepted, Undone, Skipped, Proved, Refused, Quick, Taut, Inst, Report}
+use Rattle.nq_events.specs.Events.{Event, Hints, BootStrap, AddShell, Dcl, Defn, AddAxiom, ProveLemma, Toggle, Undo, Skipped as PassedOver}
+use Rattle.nq_events.specs.EventTerms.{HasEventTerms}
+use Rattle.nq_events.specs.Reading.{event_of, event_refusal}
+use Rattle.nq_events.specs.Refusals.{Refusal, NameInUse}
+use Rattle.nq_events.specs.OwnRefusals.{in_use_refusal, own_refusal, refused_if, room_refusal}
+use Rattle.nq_events.specs.AllowedEvents.{IsAllowedEvent, plain_definition}
+use Rattle.nq_events.specs.Effects.{defined}
+use Rattle.nq_events.proofs.EventTerms.{events_have_terms}
+use Rattle.nq_events.proofs.AllowedEvents.{events_are_allowed, plain_definitions}
+use Rattle.nq_answers.specs.Steps.{Answers, AnswersUnless, IsOutcome, IsTried, Runs, after, after_event, classes_answer, first_answer, formula_answer, is_taken, not_yet, recursive_answer, refusal_of, refused, undone, untaken}
+use Rattle.nq_answers.specs.Derived.{AreDerived, IsDerived, IsShown}
+use Rattle.nq_answers.specs.Laws.{RunsAreDerived}
+use Rattle.nq_answers.proofs.Instances.{instance_derivable}
+use Rattle.nq_answers.proofs.SmallTautologies.{tautology_derivable}
+
+-- ---- refusals take nothing
+
+abbrev pub TakesNothing : Option Answer → Type 0
+TakesNothing None = ⊤
+TakesNothing (Some answer) = is_taken answer ≡ false
+
+refused_nothing : (o : Option Refusal) → TakesNothing (refused o)
+refused_nothing None = tt
+refused_nothing (Some refusal) = refl
+
+first_nothing : (a b : Option Answer) → TakesNothing a → TakesNothing b → TakesNothing (first_answer a b)
+first_nothing None b h k = k
+first_nothing (Some a) b h k = h
+
+classes_nothing : (form : Form) (classes : List RuleClass) → TakesNothing (classes_answer form classes)
+classes_nothing form [] = tt
+classes_nothing form (class ∷ classes) = refl
+
+formula_nothing : (h : History) (form : Form) (name : Name) (classes : List RuleClass) → TakesNothing (formula_answer h form name classes)
+formula_nothing h form name classes =
+    first_nothing (refused (in_use_refusal NameInUse h name)) (first_answer (classes_answer form classes) (refused (room_refusal h))) (refused_nothing (in_use_refusal NameInUse h name))
+    (first_nothing (classes_answer form classes) (refused (room_refusal h)) (classes_nothing form classes) (refused_nothing (room_refusal h)))
+
+recursive_nothing : (form : Form) (b : Bool) → TakesNothing (if b then Some (not_yet form) else None)
+recursive_nothing form true = refl
+recursive_nothing form false = tt
+
+pub untaken_nothing : (h : History) (form : Form) (e : Event) → TakesNothing (untaken h form e)
+untaken_nothing h form BootStrap = tt
+untaken_nothing h form (AddShell shell) = refused_nothing (own_refusal h (AddShell shell))
+untaken_nothing h form (Dcl name formals) = refused_nothing (own_refusal h (Dcl name formals))
+untaken_nothing h form (Defn name formals body measures) =
+    first_nothing (refused (own_refusal h (Defn name formals body measures))) (recursive_answer form name body)
+    (refused_nothing (own_refusal h (Defn name formals body measures))) (recursive_nothing form (mentions name body))
+untaken_nothing h form (AddAxiom name classes t) = formula_nothing h form name classes
+untaken_nothing h form (ProveLemma name classes t hints) = formula_nothing h form name classes
+untaken_nothing h form (Toggle name old disabled) = refused_nothing (own_refusal h (Toggle name old disabled))
+untaken_nothing h form (Undo name) = refused_nothing (own_refusal h (Undo name))
+untaken_nothing h form PassedOver = tt
+
+pub refusal_nothing : (h : History) (form : Form) → TakesNothing (refusal_of h form)
+refusal_nothing h form =
+    first_nothing (refused (event_refusal h form)) (untaken h form (event_of h form)) (refused_nothing (event_refusal h form)) (untaken_nothing h form (event_of h form))
+
+-- ---- where nothing is refused
+
+none_refused : (o : Option Refusal) (later : Option Answer) → first_answer (refused o) later ≡ None → o ≡ None
+none_refused None later e = refl
+none_refused (Some refusal) later e = absurd cc
+
+none_later : (o : Option Refusal) (later : Option Answer) → first_answer (refused o) later ≡ None → later ≡ None
+none_later None later e = e
+none_later (Some refusal) later e = absurd cc
+
+pub no_refusal : (o : Option Refusal) → refused o ≡ None → o ≡ None
+no_refusal None e = refl
+no_refusal (Some refusal) e = absurd cc
+
+not_refused : (b : Bool) (r : Refusal) → refused_if b r ≡ None → b ≡ false
+not_refused true r e = absurd cc
+not_refused false r e = refl
+
+not_recursive : (form : Form) (b : Bool) → (if b then Some (not_yet form) else None) ≡ None → b ≡ false
+not_recursive form true e = absurd cc
+not_recursive form false e = refl
+
+-- an event without a refusal of its own meets the conditions of its kind
+allowed_event : (h : History) (e : Event) → refused (own_refusal h e) ≡ None → IsAllowedEvent h e
+allowed_event h e none = events_are_allowed h e (no_refusal (own_refusal h e) none)
+
+-- the name of an axiom or a lemma that isn't refused is new
+formula_unused : (h : History) (form : Form) (name : Name) (classes : List RuleClass) → formula_answer h form name classes ≡ None → is_in_use name h ≡ false
+formula_unused h form name classes none =
+    not_refused (is_in_use name h) (NameInUse name) (none_refused (in_use_refusal NameInUse h name) (first_answer (classes_answer form classes) (refused (room_refusal h))) none)
+
+-- ---- what an answer says of its event, in a sound history
+
+-- a lemma that the answer says is proved is derivable, and the history after the event is sound
+abbrev HoldsAfter : History → Event → Answer → Type 0
+HoldsAfter h e answer = IsDerived h e answer × IsSound (after_event h e answer)
+
+not_shown : (h : History) (t : Term) (answer : Answer) → is_taken answer ≡ false → IsShown h t answer
+not_shown h t Accepted e = tt
+not_shown h t (Undone count) e = tt
+not_shown h t Skipped e = tt
+not_shown h t (Proved quick) e = absurd cc
+not_shown h t (Refused code words) e = tt
+
+not_derived : (h : History) (e : Event) (answer : Answer) → is_taken answer ≡ false → IsDerived h e answer
+not_derived h BootStrap answer k = tt
+not_derived h (AddShell shell) answer k = tt
+not_derived h (Dcl name formals) answer k = tt
+not_derived h (Defn name formals body measures) answer k = tt
+not_derived h (AddAxiom name classes t) answer k = tt
+not_derived h (ProveLemma name classes t hints) answer k = not_shown h t answer k
+not_derived h (Toggle name old disabled) answer k = tt
+not_derived h (Undo name) answer k = tt
+not_derived h PassedOver answer k = tt
+
+not_after : (h : History) (e : Event) (answer : Answer) → is_taken answer ≡ false → IsSound h → IsSound (after_event h e answer)
+not_after h e answer k sound = subst (λ (b : Bool). IsSound (if b then after_event h e Accepted else h)) (sym k) sound
+
+module _ (h : History) (sound : IsSound h) (form : Form) where
+  -- an answer that is known
+  answered : (e : Event) (answer own : Answer) → answer ≡ own → HoldsAfter h e own → HoldsAfter h e answer
+  answered e answer own same holds = subst (HoldsAfter h e) (sym same) holds
+
+  -- a new event that holds is added
+  added_holds : (e : logic.Event) → is_in_use (event_name e) h ≡ false → EventHolds h e → IsSound (h ++ e ∷ [])
+  added_holds e unused holds = sound_after h (Adds e) sound (unused, holds)
+
+  -- a lemma that is tried, over the functions of the history
+  lemma_holds : (name : Name) (classes : List RuleClass) (t : Term) (hints : Hints) (answer : Answer) → IsTerm (symbols_of h) t → is_in_use name h ≡ false → IsTried h form t answer
+      → HoldsAfter h (ProveLemma name classes t hints) answer
+  lemma_holds name classes t hints answer over unused tried = by_way tried
+    where
+      e : Event
+      e = ProveLemma name classes t hints
+
+      proved : (quick : Quick) → answer ≡ Proved quick → Derivable h (holds t) → HoldsAfter h e answer
+      proved quick so shown = answered e answer (Proved quick) so (shown, added_holds (logic.Lemma name classes t) unused shown)
+
+      by_way : IsTried h form t answer → HoldsAfter h e answer
+      by_way (inl (small, so)) = proved Taut so (tautology_derivable h t over small)
+      by_way (inr (inl (first, so))) = proved Inst so (instance_derivable h t sound over first.instance)
+      by_way (inr (inr (none, so))) = answered e answer (not_yet form) so (tt, sound)
+
+  -- an event without a refusal
+  outcome_holds : (e : Event) (answer : Answer) → event_refusal h form ≡ None → event_of h form ≡ e → HasEventTerms h e → untaken h form e ≡ None → IsOutcome h form e answer → HoldsAfter h e answer
+  outcome_holds BootStrap answer none is terms taken so = answered BootStrap answer Accepted so (tt, tt)
+  outcome_holds (AddShell shell) answer none is terms taken so =
+      let addable = allowed_event h (AddShell shell) taken in
+      answered (AddShell shell) answer Accepted so (tt, added_holds (logic.AddShell shell) addable.accepted.unused.0 addable.accepted)
+  outcome_holds (Dcl name formals) answer none is terms taken so =
+      let declarable = allowed_event h (Dcl name formals) taken in
+      answered (Dcl name formals) answer Accepted so (tt, added_holds (logic.Declaration name (length formals)) declarable.addable.unused tt)
+  outcome_holds (Defn name formals body measures) answer none is terms taken so =
+      let e : Event = Defn name formals body measures in
+      let own = none_refused (own_refusal h e) (recursive_answer form name body) taken in
+      let plain : mentions name body ≡ false = not_recursive form (mentions name body) (none_later (own_refusal h e) (recursive_answer form name body) taken) in
+      let admissible : IsAdmissible h (plain_definition name formals body) = plain_definitions h form name formals body measures none is own plain in
+      answered e answer Accepted so (tt, added_holds (defined name formals body None) admissible.unused admissible)
+  outcome_holds (AddAxiom name classes t) answer none is terms taken so =
+      answered (AddAxiom name classes t) answer Accepted so (tt, added_holds (logic.Axiom name classes t) (formula_unused h form name classes taken) terms.read.over)
+  outcome_holds (ProveLemma name classes t hints) answer none is terms taken so =
+      lemma_holds name classes t hints answer terms.0.read.over (formula_unused h form name classes taken) so
+  outcome_holds (Toggle name old disabled) answer none is terms taken so =
+      let togglable = allowed_event h (Toggle name old disabled) taken in
+      answered (Toggle name old disabled) answer Accepted so (tt, added_holds (logic.Toggle name old disabled) togglable.addable.unused tt)
+  outcome_holds (Undo name) answer none is terms taken so = answered (Undo name) answer (Undone (undone h name)) so (tt, sound_after h (Undoes name) sound tt)
+  outcome_holds PassedOver answer none is terms taken so = answered PassedOver answer Skipped so (tt, sound)
+
+  answer_holds : (answer : Answer) (o : Option Answer) → refusal_of h form ≡ o → TakesNothing o → AnswersUnless o h form (event_of h form) answer → HoldsAfter h (event_of h form) answer
+  answer_holds answer None is nothing so =
+      let none : event_refusal h form ≡ None = none_refused (event_refusal h form) (untaken h form (event_of h form)) is in
+      outcome_holds (event_of h form) answer none refl (events_have_terms h form none) (none_later (event_refusal h form) (untaken h form (event_of h form)) is) so
+  answer_holds answer (Some refusal) is nothing so =
+      answered (event_of h form) answer refusal so (not_derived h (event_of h form) refusal nothing, not_after h (event_of h form) refusal nothing sound)
+
+  step_holds : (answer : Answer) → Answers h form answer → HoldsAfter h (event_of h form) answer
+  step_holds answer so = answer_holds answer (refusal_of h form) refl (refusal_nothing h form) so
+
+-- ---- the steps of a run
+
+runs_hold : (old : History) (forms : Forms) (reports : List Report) (new : History) → IsSound old → Runs old forms reports new → AreDerived old forms reports × IsSound new
+runs_hold old end [] new sound runs = (tt, subst IsSound (sym runs) sound)
+runs_hold old end (r ∷ rs) new sound runs = absurd runs
+runs_hold old (dotted f) [] new sound runs = absurd runs
+runs_hold old (dotted f) (r ∷ rs) new sound runs = absurd runs
+runs_hold old (next f fs) [] new sound runs = absurd runs
+runs_hold old (next f fs) (r ∷ rs) new sound runs =
+    let first = step_holds old sound f r.answer runs.0.answer in
+    let rest = runs_hold (after old f r.answer) fs rs new first.1 runs.1 in
+    ((first.0, rest.0), rest.1)
+
+pub reported : RunsAreDerived
+reported forms reports history runs =
+    let holds = runs_hold [] forms reports history tt runs in
+    record { history = history; runs = runs; derived = holds.0; sound = holds.1 }

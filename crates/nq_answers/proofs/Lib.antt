@@ -1,0 +1,4 @@
+pub mod SmallTautologies
+pub mod Instances
+pub mod Deriving
+pub mod BuiltClaims

@@ -1,0 +1,17 @@
+-- Calls of the arguments so far are matched, in the room that there was.
+use Rattle.std.proofs.Common.{◌≡◌, take}
+use Rattle.nq_logic.specs.Terms.{Name, call}
+use Rattle.nq_bank.specs.Content.{terms_at}
+use Rattle.nq_clause.specs.Binding.{bound_at, Matches}
+use Rattle.nq_clause.specs.Matching.{arguments_of}
+use Rattle.nq_clause.proofs.room.+match_in_room.Given as goal
+
+abbrev pub decreases-match_in_room : goal.decreases-match_in_room
+decreases-match_in_room l = l.pattern.0
+
+abbrev pub invariant-loop-i : goal.invariant-loop-i
+invariant-loop-i l =
+    record {
+      matched : (f : Name) → Matches l.bank (call f (terms_at l.bank (take l.i l.arguments))) (call f (take l.i (arguments_of (bound_at l.bank l.target)))) l.fn.bindings.items l.bindings.items;
+      room : l.bindings.cap ≡ l.fn.bindings.cap;
+    }

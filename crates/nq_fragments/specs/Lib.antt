@@ -1,0 +1,4 @@
+pub mod Propositions
+pub mod Tautologies
+pub mod Instances
+pub mod Fragments

@@ -1,0 +1,10 @@
+//! The connectives.
+
+/// A function that joins two propositions.
+#[derive(Clone, Copy, Debug, PartialEq, Eq)]
+pub enum Connective {
+    And,
+    Or,
+    Implies,
+    Iff,
+}

@@ -1,0 +1,117 @@
+//! Goals that are instances of axioms.
+ghost use Rattle.std.specs.Prelude.{◌≡◌, nat_lt, length, IfOk, OnOk};
+ghost use Rattle.nq_bank.specs.Content.{IsNamed, Stands};
+ghost use Rattle.nq_history.specs.Events.{events_at, HistoryStands};
+ghost use Rattle.nq_kernel.specs.Over.{TermIsIn};
+ghost use Rattle.nq_kernel.specs.EventTerms.{HasSpelledTerms};
+
+use super::{is_in, proof_in, stands, term};
+use crate::earlier::earlier_instance;
+use nq_bank::{Bank, Sym, TermId};
+use nq_history::{Entry, EntryKind, History, PushFault};
+use nq_kernel::Quick;
+use std::process::Abort;
+use std::test::Fail;
+
+/// Adds an axiom.
+fn push_axiom(bank: &Bank, history: &mut History, name: Sym, t: TermId) -> Result<(), PushFault>
+    requires stands { HistoryStands bank.now history.old }
+    requires spelled { HasSpelledTerms (events_at bank.now history.old) }
+    requires name { IsNamed bank.now name }
+    requires term { Stands bank.now t }
+    requires over { TermIsIn bank.now history.old t }
+    ensures stands { OnOk result (HistoryStands bank.now history.new) }
+    ensures spelled { OnOk result (HasSpelledTerms (events_at bank.now history.new)) }
+{
+    let entry = Entry {
+        name,
+        kind: EntryKind::Axiom(Vec::new(bank.alloc()), t),
+        mark: bank.mark(),
+    };
+    history.push(bank, entry)
+}
+
+fn named(bank: &Bank, s: Sym) -> bool
+    ensures { result ≡ nat_lt s.0 (length bank.now.names) }
+{
+    s.0 < bank.mark().names
+}
+
+/// The ground history and an axiom of one of the first terms of the bank.
+fn history_with(rt: &impl Abort, bank: &mut Bank, name: Sym, axiom: TermId) -> Result<History, Fail>
+    ensures stands { IfOk result (HistoryStands bank.new) }
+    ensures spelled { IfOk result (λ h. HasSpelledTerms (events_at bank.new h)) }
+{
+    let made = bank.len();
+    let mut history = History::ground(bank)?;
+    assert!(rt; named(bank, name) && stands(bank, axiom));
+    assert!(rt; is_in(bank, &history, made, axiom));
+    let pushed = push_axiom(bank, &mut history, name, axiom);
+    assert!(rt; pushed.is_ok());
+    Ok(history)
+}
+
+#[test]
+fn instances_of_an_axiom_are_proved(rt: HostRuntime) -> Result<(), Fail> {
+    for (axiom, text, way) in [
+        ("$X", "$P", Some(Quick::Inst)),
+        ("$X", "$X", Some(Quick::Inst)),
+        ("$X", "$$!P", Some(Quick::Inst)),
+        ("X", "$P", Some(Quick::Inst)),
+        ("$X", "P", None),
+        ("$X", "!P", None),
+        ("$$X", "$P", None),
+        // a variable stands for one term
+        ("~XX", "~$P$P", Some(Quick::Inst)),
+        ("~XX", "~P$P", None),
+        ("~XQ", "~PP", Some(Quick::Inst)),
+        // all variables are replaced at once
+        ("~XQ", "~QX", Some(Quick::Inst)),
+        ("~$X$Q", "~$$Q$X", Some(Quick::Inst)),
+        // a numeral above 0 is a call of ADD1
+        ("~+XX", "~43", Some(Quick::Inst)),
+        ("~+XX", "~33", None),
+        ("$+X", "$7", Some(Quick::Inst)),
+        ("$++X", "$2", Some(Quick::Inst)),
+        ("$+++X", "$2", None),
+        ("$2", "$2", Some(Quick::Inst)),
+        ("$2", "$3", None),
+        // a tautology is proved as such, though it is an instance
+        (">XX", ">PP", Some(Quick::Taut)),
+        (">XX", ">$P$P", Some(Quick::Taut)),
+        (">XQ", ">PP", Some(Quick::Taut)),
+        (">XQ", ">PQ", Some(Quick::Inst)),
+    ] {
+        let mut bank = Bank::new(rt.alloc())?;
+        let name = bank.name(b"FIRST")?;
+        let pattern = term(&rt, &mut bank, axiom.as_bytes())?;
+        let goal = term(&rt, &mut bank, text.as_bytes())?;
+        let made = bank.len();
+        let history = history_with(&rt, &mut bank, name, pattern)?;
+        let found = proof_in(&rt, bank, &history, made, goal)?;
+        assert!(rt; found.map(|f| f.0) == way, "{axiom} {text}");
+    }
+    Ok(())
+}
+
+#[test]
+fn the_oldest_axiom_is_taken(rt: HostRuntime) -> Result<(), Fail> {
+    let mut bank = Bank::new(rt.alloc())?;
+    let first = bank.name(b"FIRST")?;
+    let second = bank.name(b"SECOND")?;
+    let pattern = term(&rt, &mut bank, b"$X")?;
+    let narrower = term(&rt, &mut bank, b"$$X")?;
+    let goal = term(&rt, &mut bank, b"$$P")?;
+    let made = bank.len();
+    let mut history = history_with(&rt, &mut bank, first, pattern)?;
+    assert!(rt; named(&bank, second) && stands(&bank, narrower) && stands(&bank, goal));
+    assert!(rt; is_in(&bank, &history, made, narrower));
+    let pushed = push_axiom(&bank, &mut history, second, narrower);
+    assert!(rt; pushed.is_ok());
+    let found = earlier_instance(&bank, &history, goal)?;
+    assert!(rt; found.is_some());
+    if let Some(earlier) = found {
+        assert!(rt; earlier.name.0 == first.0 && earlier.term.0 == pattern.0);
+    }
+    Ok(())
+}

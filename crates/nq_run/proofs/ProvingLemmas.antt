@@ -1,0 +1,123 @@
+-- The try of a lemma, over a bank that its proof grows.
+use Rattle.std.proofs.Common.{◌≡◌, ℕ, true, Bool, List, [], ◌∷◌, length, refl, ap, ap₂, sym, subst, ◌∙◌, arith}
+use Rattle.std.specs.Prelude.{All, IfSome, Option, None, Some}
+use Rattle.nq_logic.specs.Terms.{Name, Term}
+use Rattle.nq_logic.specs.Histories.{History}
+use Rattle.nq_bank.specs.declared.node.Mark.{Mark}
+use Rattle.nq_bank.specs.declared.node.Sym.{Sym}
+use Rattle.nq_bank.specs.declared.node.TermId.{TermId}
+use Rattle.nq_bank.specs.Content.{Content, Grows, IsNamed, Stands, term_at, text_at}
+use Rattle.nq_bank.specs.Marks.{CanRelease, IsMarkOf, released}
+use Rattle.nq_bank.proofs.Growth.{term_at-grown, text_at-grown}
+use Rattle.nq_proof.specs.Rules.{has_only}
+use Rattle.nq_history.specs.declared.entry.Entry.{Entry}
+use Rattle.nq_history.specs.Events.{events_at, HistoryStands}
+use Rattle.nq_history.specs.Hints.{HintsStand}
+use Rattle.nq_history.specs.declared.hints.Hints.{Hints}
+use Rattle.nq_history.proofs.HistoryLemmas.{events_at-grown}
+use Rattle.nq_kernel.specs.declared.rule.Line.{Line}
+use Rattle.nq_kernel.specs.declared.verdict.Proof.TheVariants.{First, Waterfall}
+use Rattle.nq_kernel.specs.declared.verdict.Quick.{Quick}
+use Rattle.nq_kernel.specs.declared.verdict.Verdict.{Verdict}
+use Rattle.nq_kernel.specs.declared.verdict.Verdict.TheVariants.{Proved, Failed, OutOfSteps, NotYet}
+use Rattle.nq_kernel.specs.declared.work.Work.{Work}
+use Rattle.nq_kernel.specs.Growing.{LogGrows, PrescriptionStands, WorkGrows, WorkStands}
+use Rattle.nq_kernel.specs.Hints.{HintsAreIn}
+use Rattle.nq_kernel.specs.Meaning.{IsOver, clause_at}
+use Rattle.nq_kernel.specs.Over.{IsVariable, RulesAreOver, TermIsIn}
+use Rattle.nq_kernel.specs.Proving.{IsFirstPass, IsTold}
+use Rattle.nq_block.specs.declared.closing.Closing.TheVariants as closing
+use Rattle.nq_block.specs.Closings.{CanClose, IsFree}
+use Rattle.nq_block.specs.Names.{HasSymbols}
+use Rattle.nq_spelling.specs.SpelledEvents.{IsSpelledFormula}
+use Rattle.nq_run.specs.Outcome.{AreBlocks}
+use Rattle.nq_run.specs.Sessions.{IsFoundBy, IsShownBy, ShownBy, found_claims}
+
+-- ---- work on a bank
+
+log_over : (bank : Content) (log : List Line) → log ≡ [] → IsOver bank log
+log_over bank log none = subst (IsOver bank) (sym none) (record { stand = λ i d below. absurd (omega (arith, below)) })
+
+-- with no line yet
+pub work_stands : (history : List Entry) (bank : Content) (work : Work) → HistoryStands bank history → work.bank ≡ bank → work.log ≡ [] → work.known.items ≡ [] → WorkStands history work
+work_stands history bank work stands bank_is none unknown =
+    record {
+      log = log_over work.bank work.log none;
+      history = subst (λ (b : Content). HistoryStands b history) (sym bank_is) stands;
+      known = subst (All (PrescriptionStands work.bank work.log)) (sym unknown) (λ i d below. absurd (omega (arith, below)));
+    }
+
+pub goal_in : (bank later : Content) (history : List Entry) (name : Name) (goal : TermId) → later ≡ bank → IsSpelledFormula (events_at bank history) name (term_at bank goal) → TermIsIn later history goal
+goal_in bank later history name goal same spelled = subst (λ (b : Content). TermIsIn b history goal) (sym same) spelled.claimable.over
+
+-- ---- what a verdict shows
+
+pub shown_is : (work : Work) (h : History) (t : Term) (verdict : Verdict) (shown : Option (ℕ × Quick)) → ShownBy verdict shown → IsTold work t verdict → IsFirstPass h t verdict → IsShownBy work h t shown
+shown_is work h t (Proved line (First way)) shown is told first = subst (IsShownBy work h t) (sym is) (told, first)
+shown_is work h t (Proved line (Waterfall path)) shown is told first = subst (IsShownBy work h t) (sym is) first
+shown_is work h t (Failed path cause) shown is told first = subst (IsShownBy work h t) (sym is) first
+shown_is work h t OutOfSteps shown is told first = subst (IsShownBy work h t) (sym is) first
+shown_is work h t (NotYet path) shown is told first = subst (IsShownBy work h t) (sym is) first
+
+-- a line that shows the lemma closes its block
+pub can_show : (work : Work) (history : List Entry) (name : Sym) (goal : TermId) (line : ℕ) (way : Quick) → IsSpelledFormula (events_at work.bank history) (text_at work.bank name) (term_at work.bank goal)
+    → IsFree (events_at work.bank history) (text_at work.bank name) → IsShownBy work (events_at work.bank history) (term_at work.bank goal) (Some (line, way))
+    → CanClose work.bank history work.log (closing.Lemma name goal line)
+can_show work history name goal line way spelled free shown = record { free = free; claimable = spelled.claimable; only = shown.0 }
+
+-- ---- a bank that has grown
+
+module _ (bank begun later : Content) (history : List Entry) (name : Sym) (goal : TermId) (stands : HistoryStands bank history) (named : IsNamed bank name) (there : Stands bank goal)
+    (same : begun ≡ bank) (grows : Grows begun later) where
+  pub grew : Grows bank later
+  grew = subst (λ (b : Content). Grows b later) same grows
+
+  events_kept : events_at later history ≡ events_at bank history
+  events_kept = events_at-grown bank later grew history stands.entries
+
+  name_kept : text_at later name ≡ text_at bank name
+  name_kept = text_at-grown bank later name grew named
+
+  goal_kept : term_at later goal ≡ term_at bank goal
+  goal_kept = term_at-grown bank later goal grew there
+
+  pub goal_begun : term_at later goal ≡ term_at begun goal
+  goal_begun = goal_kept ∙ ap (λ (b : Content). term_at b goal) (sym same)
+
+  pub symbols_kept : HasSymbols (events_at bank history) → HasSymbols (events_at later history)
+  symbols_kept symbols = subst HasSymbols (sym events_kept) symbols
+
+  pub spelled_kept : IsSpelledFormula (events_at bank history) (text_at bank name) (term_at bank goal) → IsSpelledFormula (events_at later history) (text_at later name) (term_at later goal)
+  spelled_kept spelled =
+      subst (λ (h : History). IsSpelledFormula h (text_at later name) (term_at later goal)) (sym events_kept)
+      (subst (λ (n : Name). IsSpelledFormula (events_at bank history) n (term_at later goal)) (sym name_kept)
+      (subst (λ (t : Term). IsSpelledFormula (events_at bank history) (text_at bank name) t) (sym goal_kept) spelled))
+
+  pub free_kept : IsFree (events_at bank history) (text_at bank name) → IsFree (events_at later history) (text_at later name)
+  free_kept free = subst (λ (h : History). IsFree h (text_at later name)) (sym events_kept) (subst (IsFree (events_at bank history)) (sym name_kept) free)
+
+  -- what the verdict says of the bank as it was when the work began
+  pub shown_kept : (work : Work) (verdict : Verdict) (shown : Option (ℕ × Quick)) → ShownBy verdict shown → IsTold work (term_at begun goal) verdict
+      → IsFirstPass (events_at begun history) (term_at begun goal) verdict → IsShownBy work (events_at later history) (term_at later goal) shown
+  shown_kept work verdict shown is told first =
+      let own : IsShownBy work (events_at begun history) (term_at begun goal) shown = shown_is work (events_at begun history) (term_at begun goal) verdict shown is told first in
+      let events : events_at begun history ≡ events_at later history = ap (λ (b : Content). events_at b history) same ∙ sym events_kept in
+      subst (λ (h : History). IsShownBy work h (term_at later goal) shown) events
+      (subst (λ (t : Term). IsShownBy work (events_at begun history) t shown) (sym goal_begun) own)
+
+  pub found_before : (way : Option Quick) → IsFoundBy (events_at later history) (term_at later goal) way → IsFoundBy (events_at bank history) (term_at bank goal) way
+  found_before way found =
+      subst (λ (h : History). IsFoundBy h (term_at bank goal) way) events_kept (subst (λ (t : Term). IsFoundBy (events_at later history) t way) goal_kept found)
+
+  pub written_before : (way : Option Quick) (block : List ℕ) → AreBlocks (events_at later history) (found_claims (text_at later name) (term_at later goal) way) block
+      → AreBlocks (events_at bank history) (found_claims (text_at bank name) (term_at bank goal) way) block
+  written_before way block written =
+      subst (λ (h : History). AreBlocks h (found_claims (text_at bank name) (term_at bank goal) way) block) events_kept
+      (subst (λ (n : Name). AreBlocks (events_at later history) (found_claims n (term_at bank goal) way) block) name_kept
+      (subst (λ (t : Term). AreBlocks (events_at later history) (found_claims (text_at later name) t way) block) goal_kept written))
+
+  pub can_give_back : (mark : Mark) → IsMarkOf bank mark → CanRelease later mark
+  can_give_back mark is = is.can later grew
+
+  pub given_back_is : (mark : Mark) → IsMarkOf bank mark → released later mark ≡ bank
+  given_back_is mark is = is.returns later grew

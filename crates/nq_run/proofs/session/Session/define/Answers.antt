@@ -1,0 +1,58 @@
+use Rattle.std.proofs.Common.{◌≡◌, true, List, map, refl, sym, subst, ◌∙◌}
+use Rattle.std.specs.Prelude.{None}
+use Rattle.nq_sexp.specs.Tree.{tree}
+use Rattle.nq_bank.specs.declared.node.Sym.{Sym}
+use Rattle.nq_bank.specs.Content.{term_at, text_at}
+use Rattle.nq_bank.specs.Shells.{texts_at}
+use Rattle.nq_event.specs.EventsAt.{measure_at}
+use Rattle.nq_history.specs.declared.entry.EntryKind.TheVariants as kind
+use Rattle.nq_block.specs.Blocks.{IsBlock}
+use Rattle.nq_block.specs.Closings.{CanDefine, defined_at}
+use Rattle.nq_comment.specs.ReportViews.{answer_of}
+use Rattle.nq_events.specs.Events as model
+use Rattle.nq_run.specs.HistoryView.{history_of}
+use Rattle.nq_run.proofs.DefinitionLemmas.{defn_closes, defn_hindered, defn_taken}
+use Rattle.nq_run.proofs.NameLemmas.{accepted, hindered}
+use Rattle.nq_run.proofs.session.Session.define.Goals as goal
+
+pub returns-in-Some-clause-taken : goal.returns-in-Some-clause-taken
+returns-in-Some-clause-taken g c =
+    let bank = c.args.self.bank in
+    let form = tree c.args.given.form.now in
+    let name = text_at bank c.args.name in
+    let body = term_at bank c.args.body in
+    let measures = map (measure_at bank) c.args.measures.now in
+    hindered c.args.self form (model.Defn name (texts_at bank c.args.formals.items) body measures) c.args.given.logging (answer_of c.in-Some.answer) c.untaken.result
+    (defn_hindered (history_of c.args.self) form bank name c.as_slice.result.now c.args.formals.items body measures c.as_slice.ensures.value c.in_ok-answer.field-0 c.in_ok-answer.ensures
+    c.in-Some.answer c.in-Some.is) c.untaken.ensures
+
+pub block-requires-clause-closing : goal.block-requires-clause-closing
+block-requires-clause-closing g c =
+    let bank = c.args.self.bank in
+    let h = history_of c.args.self in
+    let name = text_at bank c.args.name in
+    let body = term_at bank c.args.body in
+    subst (λ (xs : List Sym). CanDefine h name (texts_at bank xs) body) (sym (c.in_ok-told.ensures.items ∙ c.as_slice-2.ensures.value))
+    (defn_closes h (tree c.args.given.form.now) bank name c.as_slice.result.now c.args.formals.items body (map (measure_at bank) c.args.measures.now) c.as_slice.ensures.value
+    c.in_ok-answer.field-0 c.in_ok-answer.ensures c.in_default.is c.requires.spelled)
+
+pub accepted-requires-clause-free : goal.accepted-requires-clause-free
+accepted-requires-clause-free g c =
+    let bank = c.args.self.bank in
+    (defn_closes (history_of c.args.self) (tree c.args.given.form.now) bank (text_at bank c.args.name) c.as_slice.result.now c.args.formals.items (term_at bank c.args.body)
+    (map (measure_at bank) c.args.measures.now) c.as_slice.ensures.value c.in_ok-answer.field-0 c.in_ok-answer.ensures c.in_default.is c.requires.spelled).free
+
+pub returns-clause-taken : goal.returns-clause-taken
+returns-clause-taken g c =
+    let bank = c.args.self.bank in
+    let h = history_of c.args.self in
+    let form = tree c.args.given.form.now in
+    let name = text_at bank c.args.name in
+    let body = term_at bank c.args.body in
+    let measures = map (measure_at bank) c.args.measures.now in
+    accepted c.args.self form (model.Defn name (texts_at bank c.args.formals.items) body measures) c.args.given.logging
+    (record { name = c.args.name; kind = kind.Defn c.args.formals c.args.body None; mark = c.args.given.mark }) (defined_at bank c.args.name c.args.formals.items c.args.body) c.in_ok-block.block
+    (defn_taken h form bank name c.as_slice.result.now c.args.formals.items body measures c.as_slice.ensures.value c.in_ok-answer.field-0 c.in_ok-answer.ensures c.in_default.is) refl refl refl
+    (subst (λ (xs : List Sym). c.args.given.logging ≡ true → IsBlock h (defined_at bank c.args.name xs c.args.body) c.in_ok-block.block)
+    (c.in_ok-told.ensures.items ∙ c.as_slice-2.ensures.value) c.in_ok-block.ensures)
+    c.accepted.result c.accepted.ensures.added c.accepted.ensures.answer c.accepted.ensures.block
