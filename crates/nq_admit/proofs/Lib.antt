@@ -1,3 +1,4 @@
 mod TermLemmas
 mod FormalLemmas
 mod AdmissionLemmas
+mod TestLemmas

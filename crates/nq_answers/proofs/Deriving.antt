@@ -1,4 +1,4 @@
--- Each lemma that is reported as proved is derivable, and each event that stands holds.
+-- What each event of a run claims holds in the history before it, and so does each event that stands at the end.
 use Rattle.std.proofs.Common.{◌≡◌, Bool, true, false, List, [], ◌∷◌, sym, subst, refl, inl, inr}
 use Rattle.std.specs.Prelude.{◌++◌, length, Option, None, Some, ⊤, if◌then◌else◌}
 use Rattle.nq_logic.specs.Terms.{Name, Term, IsTerm}
@@ -11,9 +11,9 @@ use Rattle.nq_logic.specs.Names.{event_name, is_in_use}
 use Rattle.nq_logic.specs.Admissible.{mentions, IsAdmissible}
 use Rattle.nq_form.specs.Form.{Form, Forms, end, dotted, next}
 use Rattle.nq_log.specs.States.{Adds, Undoes}
-use Rattle.nq_log.specs.Laws.{EventHolds, IsSound}
+use Rattle.nq_log.specs.Laws.{ClaimsHold, EventHolds, IsSound}
 use Rattle.nq_log.proofs.Events.{sound_after}
-use Rattle.nq_comment.specs.Reports.{Answer, Accepted, Undone, Skipped, Proved, Refused, Quick, Taut, Inst, Report}
+use Rattle.nq_comment.specs.Reports.{Answer, Accepted, Undone, Skipped, Proved, Quick, Taut, Inst, Report}
 use Rattle.nq_events.specs.Events.{Event, Hints, BootStrap, AddShell, Dcl, Defn, AddAxiom, ProveLemma, Toggle, Undo, Skipped as PassedOver}
 use Rattle.nq_events.specs.EventTerms.{HasEventTerms}
 use Rattle.nq_events.specs.Reading.{event_of, event_refusal}
@@ -24,7 +24,8 @@ use Rattle.nq_events.specs.Effects.{defined}
 use Rattle.nq_events.proofs.EventTerms.{events_have_terms}
 use Rattle.nq_events.proofs.AllowedEvents.{events_are_allowed, plain_definitions}
 use Rattle.nq_answers.specs.Steps.{Answers, AnswersUnless, IsOutcome, IsTried, Runs, after, after_event, classes_answer, first_answer, formula_answer, is_taken, not_yet, recursive_answer, refusal_of, refused, undone, untaken}
-use Rattle.nq_answers.specs.Derived.{AreDerived, IsDerived, IsShown}
+use Rattle.nq_answers.specs.Claims.{claims_of, event_claims}
+use Rattle.nq_answers.specs.Derived.{EventsHold}
 use Rattle.nq_answers.specs.Laws.{RunsAreDerived}
 use Rattle.nq_answers.proofs.Instances.{instance_derivable}
 use Rattle.nq_answers.proofs.SmallTautologies.{tautology_derivable}
@@ -104,29 +105,15 @@ formula_unused : (h : History) (form : Form) (name : Name) (classes : List RuleC
 formula_unused h form name classes none =
     not_refused (is_in_use name h) (NameInUse name) (none_refused (in_use_refusal NameInUse h name) (first_answer (classes_answer form classes) (refused (room_refusal h))) none)
 
--- ---- what an answer says of its event, in a sound history
+-- ---- what an event claims by its answer, in a sound history
 
--- a lemma that the answer says is proved is derivable, and the history after the event is sound
+-- what the event claims by its answer holds, and the history after it is sound
 abbrev HoldsAfter : History → Event → Answer → Type 0
-HoldsAfter h e answer = IsDerived h e answer × IsSound (after_event h e answer)
+HoldsAfter h e answer = ClaimsHold h (claims_of e answer) × IsSound (after_event h e answer)
 
-not_shown : (h : History) (t : Term) (answer : Answer) → is_taken answer ≡ false → IsShown h t answer
-not_shown h t Accepted e = tt
-not_shown h t (Undone count) e = tt
-not_shown h t Skipped e = tt
-not_shown h t (Proved quick) e = absurd cc
-not_shown h t (Refused code words) e = tt
-
-not_derived : (h : History) (e : Event) (answer : Answer) → is_taken answer ≡ false → IsDerived h e answer
-not_derived h BootStrap answer k = tt
-not_derived h (AddShell shell) answer k = tt
-not_derived h (Dcl name formals) answer k = tt
-not_derived h (Defn name formals body measures) answer k = tt
-not_derived h (AddAxiom name classes t) answer k = tt
-not_derived h (ProveLemma name classes t hints) answer k = not_shown h t answer k
-not_derived h (Toggle name old disabled) answer k = tt
-not_derived h (Undo name) answer k = tt
-not_derived h PassedOver answer k = tt
+-- an event that is not taken claims nothing
+not_claimed : (h : History) (e : Event) (answer : Answer) → is_taken answer ≡ false → ClaimsHold h (claims_of e answer)
+not_claimed h e answer k = subst (λ (b : Bool). ClaimsHold h (if b then event_claims e else [])) (sym k) tt
 
 not_after : (h : History) (e : Event) (answer : Answer) → is_taken answer ≡ false → IsSound h → IsSound (after_event h e answer)
 not_after h e answer k sound = subst (λ (b : Bool). IsSound (if b then after_event h e Accepted else h)) (sym k) sound
@@ -140,6 +127,11 @@ module _ (h : History) (sound : IsSound h) (form : Form) where
   added_holds : (e : logic.Event) → is_in_use (event_name e) h ≡ false → EventHolds h e → IsSound (h ++ e ∷ [])
   added_holds e unused holds = sound_after h (Adds e) sound (unused, holds)
 
+  -- the event of an answer that takes it, by what it claims and what it adds
+  taken_holds : (claimed added : logic.Event) → event_name claimed ≡ event_name added → is_in_use (event_name added) h ≡ false → EventHolds h claimed → EventHolds h added → ClaimsHold h (Adds claimed ∷ []) × IsSound (h ++ added ∷ [])
+  taken_holds claimed added same unused claim holds =
+      (((subst (λ (n : Name). is_in_use n h ≡ false) (sym same) unused, claim), tt), added_holds added unused holds)
+
   -- a lemma that is tried, over the functions of the history
   lemma_holds : (name : Name) (classes : List RuleClass) (t : Term) (hints : Hints) (answer : Answer) → IsTerm (symbols_of h) t → is_in_use name h ≡ false → IsTried h form t answer
       → HoldsAfter h (ProveLemma name classes t hints) answer
@@ -149,7 +141,7 @@ module _ (h : History) (sound : IsSound h) (form : Form) where
       e = ProveLemma name classes t hints
 
       proved : (quick : Quick) → answer ≡ Proved quick → Derivable h (holds t) → HoldsAfter h e answer
-      proved quick so shown = answered e answer (Proved quick) so (shown, added_holds (logic.Lemma name classes t) unused shown)
+      proved quick so shown = answered e answer (Proved quick) so (taken_holds (logic.Lemma name [] t) (logic.Lemma name classes t) refl unused shown shown)
 
       by_way : IsTried h form t answer → HoldsAfter h e answer
       by_way (inl (small, so)) = proved Taut so (tautology_derivable h t over small)
@@ -158,27 +150,33 @@ module _ (h : History) (sound : IsSound h) (form : Form) where
 
   -- an event without a refusal
   outcome_holds : (e : Event) (answer : Answer) → event_refusal h form ≡ None → event_of h form ≡ e → HasEventTerms h e → untaken h form e ≡ None → IsOutcome h form e answer → HoldsAfter h e answer
-  outcome_holds BootStrap answer none is terms taken so = answered BootStrap answer Accepted so (tt, tt)
+  outcome_holds BootStrap answer none is terms taken so = answered BootStrap answer Accepted so ((tt, tt), tt)
   outcome_holds (AddShell shell) answer none is terms taken so =
       let addable = allowed_event h (AddShell shell) taken in
-      answered (AddShell shell) answer Accepted so (tt, added_holds (logic.AddShell shell) addable.accepted.unused.0 addable.accepted)
+      let e : logic.Event = logic.AddShell shell in
+      answered (AddShell shell) answer Accepted so (taken_holds e e refl addable.accepted.unused.0 addable.accepted addable.accepted)
   outcome_holds (Dcl name formals) answer none is terms taken so =
       let declarable = allowed_event h (Dcl name formals) taken in
-      answered (Dcl name formals) answer Accepted so (tt, added_holds (logic.Declaration name (length formals)) declarable.addable.unused tt)
+      let e : logic.Event = logic.Declaration name (length formals) in
+      answered (Dcl name formals) answer Accepted so (taken_holds e e refl declarable.addable.unused tt tt)
   outcome_holds (Defn name formals body measures) answer none is terms taken so =
       let e : Event = Defn name formals body measures in
       let own = none_refused (own_refusal h e) (recursive_answer form name body) taken in
       let plain : mentions name body ≡ false = not_recursive form (mentions name body) (none_later (own_refusal h e) (recursive_answer form name body) taken) in
       let admissible : IsAdmissible h (plain_definition name formals body) = plain_definitions h form name formals body measures none is own plain in
-      answered e answer Accepted so (tt, added_holds (defined name formals body None) admissible.unused admissible)
+      let definition : logic.Event = defined name formals body None in
+      answered e answer Accepted so (taken_holds definition definition refl admissible.unused admissible admissible)
   outcome_holds (AddAxiom name classes t) answer none is terms taken so =
-      answered (AddAxiom name classes t) answer Accepted so (tt, added_holds (logic.Axiom name classes t) (formula_unused h form name classes taken) terms.read.over)
+      answered (AddAxiom name classes t) answer Accepted so
+      (taken_holds (logic.Axiom name [] t) (logic.Axiom name classes t) refl (formula_unused h form name classes taken) terms.read.over terms.read.over)
   outcome_holds (ProveLemma name classes t hints) answer none is terms taken so =
       lemma_holds name classes t hints answer terms.0.read.over (formula_unused h form name classes taken) so
   outcome_holds (Toggle name old disabled) answer none is terms taken so =
       let togglable = allowed_event h (Toggle name old disabled) taken in
-      answered (Toggle name old disabled) answer Accepted so (tt, added_holds (logic.Toggle name old disabled) togglable.addable.unused tt)
-  outcome_holds (Undo name) answer none is terms taken so = answered (Undo name) answer (Undone (undone h name)) so (tt, sound_after h (Undoes name) sound tt)
+      let e : logic.Event = logic.Toggle name old disabled in
+      answered (Toggle name old disabled) answer Accepted so (taken_holds e e refl togglable.addable.unused tt tt)
+  outcome_holds (Undo name) answer none is terms taken so =
+      answered (Undo name) answer (Undone (undone h name)) so ((tt, tt), sound_after h (Undoes name) sound tt)
   outcome_holds PassedOver answer none is terms taken so = answered PassedOver answer Skipped so (tt, sound)
 
   answer_holds : (answer : Answer) (o : Option Answer) → refusal_of h form ≡ o → TakesNothing o → AnswersUnless o h form (event_of h form) answer → HoldsAfter h (event_of h form) answer
@@ -186,14 +184,14 @@ module _ (h : History) (sound : IsSound h) (form : Form) where
       let none : event_refusal h form ≡ None = none_refused (event_refusal h form) (untaken h form (event_of h form)) is in
       outcome_holds (event_of h form) answer none refl (events_have_terms h form none) (none_later (event_refusal h form) (untaken h form (event_of h form)) is) so
   answer_holds answer (Some refusal) is nothing so =
-      answered (event_of h form) answer refusal so (not_derived h (event_of h form) refusal nothing, not_after h (event_of h form) refusal nothing sound)
+      answered (event_of h form) answer refusal so (not_claimed h (event_of h form) refusal nothing, not_after h (event_of h form) refusal nothing sound)
 
   step_holds : (answer : Answer) → Answers h form answer → HoldsAfter h (event_of h form) answer
   step_holds answer so = answer_holds answer (refusal_of h form) refl (refusal_nothing h form) so
 
 -- ---- the steps of a run
 
-runs_hold : (old : History) (forms : Forms) (reports : List Report) (new : History) → IsSound old → Runs old forms reports new → AreDerived old forms reports × IsSound new
+runs_hold : (old : History) (forms : Forms) (reports : List Report) (new : History) → IsSound old → Runs old forms reports new → EventsHold old forms reports × IsSound new
 runs_hold old end [] new sound runs = (tt, subst IsSound (sym runs) sound)
 runs_hold old end (r ∷ rs) new sound runs = absurd runs
 runs_hold old (dotted f) [] new sound runs = absurd runs
@@ -207,4 +205,4 @@ runs_hold old (next f fs) (r ∷ rs) new sound runs =
 pub reported : RunsAreDerived
 reported forms reports history runs =
     let holds = runs_hold [] forms reports history tt runs in
-    record { history = history; runs = runs; derived = holds.0; sound = holds.1 }
+    record { history = history; runs = runs; hold = holds.0; sound = holds.1 }

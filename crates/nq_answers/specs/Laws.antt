@@ -8,8 +8,8 @@ use Rattle.nq_answers.specs.Claims.{claims_from}
 use Rattle.nq_answers.specs.Derived.{Reported}
 use Rattle.nq_answers.specs.Steps.{Runs}
 
--- Of each run from the ground history, each lemma reported as proved is derivable in the history before it, and each event
--- that stands at the end holds in the history before it.
+-- Of each run from the ground history, each event that was accepted or proved holds in the history just before it, and each
+-- event that stands at the end in the history of the events before it that stand.
 abbrev pub RunsAreDerived : Type 0
 RunsAreDerived = (forms : Forms) (reports : List Report) (history : History) → Runs [] forms reports history → Reported forms reports
 

@@ -6,7 +6,8 @@
 
 ghost use Rattle.nq_answers.specs.Laws.{RunsAreBuilt, RunsAreDerived};
 
-/// Each lemma that a run reports as proved is derivable, and each event that stands at its end holds.
+/// Each lemma that a run reports as proved is derivable, and each event that it accepts meets its principle, in the history
+/// just before it; and each event that stands at its end holds.
 pub fn runs_are_derived()
     ensures { RunsAreDerived }
 {}

@@ -19,7 +19,7 @@ pub ground_grows : (bank : Content) → IsSound bank → Grows ground_content ba
 ground_grows bank sound = record { names = sound.ground.first; terms = refl }
 
 leaf_stands : (old new : Content) (leaf : Leaf) → Grows old new → LeafStands old leaf → LeafStands new leaf
-leaf_stands old new (Letter b) grows h = tt
+leaf_stands old new (Letter b) grows h = h
 leaf_stands old new (Name s) grows h = IsNamed-grown old new s grows h
 leaf_stands old new (Part k) grows h = tt
 leaf_stands old new (Number n) grows h = tt

@@ -1,6 +1,7 @@
 -- What the node at a place tells of its term, and what holds of a whole bank.
-use Rattle.std.proofs.Common.{◌≡◌, ℕ, zero, suc, ◌<◌, ◌≤◌, List, [], ◌∷◌, length, get_or, take, eqb, refl, sym, ap, ◌∙◌, subst, arith}
+use Rattle.std.proofs.Common.{◌≡◌, ℕ, zero, suc, ◌<◌, ◌≤◌, List, [], ◌∷◌, length, get_or, slice_get, Some, take, eqb, refl, sym, ap, ◌∙◌, subst, arith}
 use Rattle.std.specs.Prelude.{All, bytes_eq}
+use Rattle.std.proofs.lemmas.Option.{get_or_from_slice_get}
 use Rattle.std.proofs.lemmas.List.{get_or-take, get_or_default, length-take, length-map}
 use Rattle.nq_bank.specs.declared.node.Sym.{Sym}
 use Rattle.nq_bank.specs.declared.node.TermId.{TermId}
@@ -21,7 +22,8 @@ use Rattle.nq_bank.specs.Held.{content_of, IsHeld}
 use Rattle.nq_bank.proofs.Texts.{eqb-names}
 use Rattle.nq_bank.proofs.Numerals.{parts_of-number}
 use Rattle.nq_bank.proofs.CallLemmas.{parts_of-other, uses_variable, uses_call, uses_numeral, among_get, EachUses}
-use Rattle.nq_bank.proofs.NodesLemmas.{All-head, All-tail, length-built_terms, node_is, node_exists}
+use Rattle.nq_bank.proofs.Lookups.{element_exists}
+use Rattle.nq_bank.proofs.NodesLemmas.{All-head, All-tail, length-built_terms, node_is}
 
 length-terms_from : (ts : List Term) (ids : List TermId) → length (terms_from ts ids) ≡ length ids
 length-terms_from ts ids = length-map ids (term_from ts)
@@ -69,8 +71,9 @@ tells_of_node bank i e h =
       only = record { only = h.only };
     }
 
-pub tells : (names : List (List ℕ)) (es : List Stored) (bank : Content) (i : TermId) (e : Stored) → content_of names es ≡ bank → IsHeld names es → Stands bank i → e ≡ get_or es i.0 e → Tells bank i e
-tells names es bank i e view held stands is =
+pub tells : (names : List (List ℕ)) (es : List Stored) (bank : Content) (i : TermId) (e : Stored) → content_of names es ≡ bank → IsHeld names es → Stands bank i → slice_get es i.0 ≡ Some e → Tells bank i e
+tells names es bank i e view held stands found =
+    let is : e ≡ get_or es i.0 e = sym (get_or_from_slice_get es i.0 e e found) in
     let below : i.0 < length es = subst (λ n. i.0 < n) (ap (λ b. length b.terms) (sym view) ∙ length-built_terms names es) stands in
     subst (λ b. Tells b i e) view (tells_of_node (content_of names es) i e (node_is names es i e held.right below is))
 
@@ -120,14 +123,14 @@ node_uses names ts limit (App f count) ids ground h k = uses_call names (text_fr
 uses_below : (names : List (List ℕ)) (es : List Stored) (limit : ℕ) → IsHeld names es → limit ≤ length es → (i : TermId) → i.0 < limit → UsesOnly names (term_from (built_terms names es) i)
 uses_below names es zero held within i below = absurd (omega arith)
 uses_below names es (suc limit) held within i below =
-    let node = node_exists es i.0 (omega arith) in
+    let node = element_exists es i.0 (omega arith) in
     let is = node_is names es i node.0 held.right (omega arith) node.1 in
     subst (UsesOnly names) (sym is.means) (node_uses names (built_terms names es) i.0 node.0.node node.0.arguments.items held.ground is.formed
     (λ j less. uses_below names es limit held (omega arith) j (omega arith)))
 
 shallow_at : (names : List (List ℕ)) (es : List Stored) (i : TermId) → IsHeld names es → i.0 < length es → depth_of (term_from (built_terms names es) i) ≤ depth_limit
 shallow_at names es i held below =
-    let node = node_exists es i.0 below in
+    let node = element_exists es i.0 below in
     let is = node_is names es i node.0 held.right below node.1 in
     subst (λ d. d ≤ depth_limit) is.keeps.depth is.keeps.shallow
 
@@ -138,7 +141,7 @@ sound_here names es held =
       ground = record { first = held.ground };
       names = λ s named. only_here names es s held named;
       terms = λ i stands.
-          let node = node_exists es i.0 (omega arith) in
+          let node = element_exists es i.0 (omega arith) in
           record { only = (node_is names es i node.0 held.right (omega arith) node.1).only };
       shallow = λ k d below. all_places (λ t. depth_of t ≤ depth_limit) (built_terms names es) (λ i less. shallow_at names es i held (omega arith)) k d below;
       used = λ k d below. all_places (UsesOnly names) (built_terms names es) (λ i less. uses_below names es (length es) held (omega arith) i (omega arith)) k d below;

@@ -1,4 +1,7 @@
 pub mod Texts
+pub mod Lookups
+pub mod NameTable
+pub mod NodeTable
 pub mod Numerals
 pub mod CallLemmas
 pub mod NodesLemmas

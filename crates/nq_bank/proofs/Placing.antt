@@ -18,7 +18,8 @@ use Rattle.nq_bank.specs.Nodes.{node_term, stored_term, built_terms, node_number
 use Rattle.nq_bank.specs.Held.{content_of, AreDistinct, IsHeld}
 use Rattle.nq_bank.proofs.Numerals.{number_of-numeral, depth_of-number, size_of-number, is_value-number, depth_of-other, size_of-other, is_value-other}
 use Rattle.nq_bank.proofs.CallLemmas.{variable_is_no_call}
-use Rattle.nq_bank.proofs.NodesLemmas.{All-head, All-tail, add_terms-push, node_exists, node_is, terms_differ, AreRight-push, length-built_terms}
+use Rattle.nq_bank.proofs.Lookups.{element_exists}
+use Rattle.nq_bank.proofs.NodesLemmas.{All-head, All-tail, add_terms-push, node_is, terms_differ, AreRight-push, length-built_terms}
 
 -- two places have one term only if they are one
 AreApart : List Term → Type 0
@@ -91,7 +92,7 @@ pub record CanPlace (names : List (List ℕ)) (es : List Stored) (node : Node) (
 fresh_term : (names : List (List ℕ)) (es : List Stored) (node : Node) (ids : List TermId) (depth size : ℕ) (value : Bool) (term : Term) → IsHeld names es → CanPlace names es node ids depth size value term → All (λ e. ¬ IsStored e node ids) es → (i : TermId) → i.0 < length (built_terms names es) → term_from (built_terms names es) i ≢ term
 fresh_term names es node ids depth size value term held can none i below same =
     let count = length-built_terms names es in
-    let at = node_exists es i.0 (omega arith) in
+    let at = element_exists es i.0 (omega arith) in
     let lt : i.0 < length es = omega arith in
     let is = node_is names es i at.0 held.right lt at.1 in
     let within : i.0 ≤ length (built_terms names es) = omega arith in

@@ -6,6 +6,7 @@ pub mod Heads
 pub mod Soundness
 pub mod Marks
 pub mod Nodes
+pub mod Wanted
 pub mod Held
 pub mod Texts
 pub mod Faults

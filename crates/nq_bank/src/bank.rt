@@ -14,6 +14,7 @@ ghost use Rattle.nq_bank.specs.Marks.{CanRelease, released, IsMarkOf};
 
 use crate::node::{BankFault, Kept, Mark, Node, Stored, Sym, TermId};
 use crate::{calls, ground, names, nodes};
+use indexmap::IndexSet;
 use std::alloc::{AllocError, Global};
 use std::marker::Model;
 
@@ -26,8 +27,8 @@ pub const DEPTH_LIMIT: u32 = 4000;
 #[derive(Drop)]
 pub struct Bank {
     alloc: Global,
-    names: Vec<Vec<u8>>,
-    nodes: Vec<Stored>,
+    names: IndexSet<Vec<u8>>,
+    nodes: IndexSet<Stored>,
 }
 
 impl Model for Bank {
@@ -39,9 +40,9 @@ impl Model for Bank {
 
     ghost coded = { content_code };
 
-    ghost view = { λ b. content_of (map (λ name. name.items) b.names.items) b.nodes.items };
+    ghost view = { λ b. content_of (map (λ name. name.items) b.names.keys) b.nodes.keys };
 
-    ghost invariant = { λ b. IsHeld (map (λ name. name.items) b.names.items) b.nodes.items };
+    ghost invariant = { λ b. IsHeld (map (λ name. name.items) b.names.keys) b.nodes.keys };
 }
 
 impl Bank {
@@ -54,7 +55,7 @@ impl Bank {
         Ok(Bank {
             alloc,
             names,
-            nodes: Vec::new(alloc),
+            nodes: IndexSet::new(alloc),
         })
     }
 

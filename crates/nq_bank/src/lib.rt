@@ -4,7 +4,7 @@
 //! compared by their ids. Contracts see a bank as its names and its terms, each in order (`Content`); a term is the
 //! logic's tree over texts, and numerals are kept as one node. What holds of every bank is `IsSound`.
 //!
-//! A name or a node is looked up in its list from the front, so many thousands of terms take long to make.
+//! A name and a node are found by their hashes.
 #![tactic(auto)]
 
 // names, ids, heads, marks and faults
@@ -13,7 +13,7 @@ mod node;
 // the names that each bank begins with
 pub mod ground;
 
-// the list of names, and the list of nodes
+// the names, and the nodes
 mod names;
 mod nodes;
 

@@ -1,15 +1,15 @@
 //! Names, ids, heads, marks and faults.
 
 /// A name, by its place in the bank, counted from 0. The ground names have the places of the constants in `ground`.
-#[derive(Clone, Copy, Debug, PartialEq, Eq)]
+#[derive(Clone, Copy, Debug, PartialEq, Eq, Hash)]
 pub struct Sym(pub u64);
 
 /// A term, by its place in the bank, counted from 0.
-#[derive(Clone, Copy, Debug, PartialEq, Eq)]
+#[derive(Clone, Copy, Debug, PartialEq, Eq, Hash)]
 pub struct TermId(pub u64);
 
 /// What stands at the head of a term.
-#[derive(Clone, Copy, Debug, PartialEq, Eq)]
+#[derive(Clone, Copy, Debug, PartialEq, Eq, Hash)]
 pub enum Node {
     /// A variable, by its name.
     Var(Sym),
@@ -48,12 +48,17 @@ pub struct Kept {
     pub value: bool,
 }
 
-/// A node with its arguments, and what is kept with it.
+/// A node with its arguments, and what is kept with it. It is told from others by its head and its arguments alone, since what
+/// is kept follows from them.
 #[derive(Debug, Drop)]
+#[derive_where(PartialEq, Eq, Hash)]
 pub struct Stored {
     pub node: Node,
     pub arguments: Vec<TermId>,
+    #[derive_where(skip(EqHashOrd))]
     pub depth: u32,
+    #[derive_where(skip(EqHashOrd))]
     pub size: u64,
+    #[derive_where(skip(EqHashOrd))]
     pub value: bool,
 }

@@ -1,65 +1,60 @@
-//! The list of nodes: each node stands once.
-//!
-//! A node is found by a search of the list, so the time to make n terms grows with the square of n. A table by hash can
-//! take the list's place: nothing above relies on more than the contract of `place`.
-ghost use Rattle.std.specs.Prelude.{◌≡◌, IsTrue, ◌↔◌, All, IfSome, IfNone, IfOk, OnErr};
+//! The nodes: each node stands once, and is found by the hash of its head and its arguments.
+ghost use Rattle.std.specs.Prelude.{◌≡◌, All, IfSome, IfNone, IfOk, OnErr};
 ghost use Rattle.nq_bank.specs.Faults.{memory_fault};
 ghost use Rattle.nq_bank.specs.Nodes.{IsStoredAt, IsStored, IsPlaced};
+ghost use Rattle.nq_bank.specs.Wanted.{is_wanted, wanted_hashed, wanted_same};
 
 use crate::node::{BankFault, Kept, Node, Stored, TermId};
+use indexmap::{Equivalent, IndexSet};
 use std::alloc::{AllocError, Global};
 
-/// Are two heads the same?
-fn is_same_node(left: Node, right: Node) -> bool
-    ensures { IsTrue result ↔ (left ≡ right) }
-{
-    left == right
+/// What a node is found by: its head, and its arguments where they lie.
+#[derive(Clone, Copy, PartialEq, Eq, Hash)]
+struct Wanted<'a> {
+    node: Node,
+    arguments: &'a [TermId],
 }
 
-/// Are two lists of arguments the same?
-fn are_same_terms(left: &[TermId], right: &[TermId]) -> bool
-    ensures { IsTrue result ↔ (left.now ≡ right.now) }
-{
-    left == right
-}
+impl<'a> Equivalent<Stored> for Wanted<'a> {
+    ghost equivalent = { λ q. is_wanted q.node q.arguments.now };
 
-/// Has the node this head and these arguments?
-fn is_stored(stored: &Stored, node: Node, arguments: &[TermId]) -> bool
-    ensures { IsTrue result ↔ IsStored stored.now node arguments.now }
-{
-    is_same_node(stored.node, node) && are_same_terms(stored.arguments.as_slice(), arguments)
+    ghost respects_hash = { λ q. wanted_hashed q.node q.arguments.now };
+
+    ghost respects_eq = { λ q. wanted_same q.node q.arguments.now };
+
+    fn equivalent(&self, key: &Stored) -> bool {
+        self.node == key.node && self.arguments == key.arguments.as_slice()
+    }
 }
 
 /// The place of the node with these arguments.
-pub fn find(nodes: &[Stored], node: Node, arguments: &[TermId]) -> Option<TermId>
-    ensures found { IfSome result (λ t. IsStoredAt nodes.now t node arguments.now) }
-    ensures none { IfNone result (All (λ e. ¬ IsStored e node arguments.now) nodes.now) }
+pub fn find(nodes: &IndexSet<Stored>, node: Node, arguments: &[TermId]) -> Option<TermId>
+    ensures found { IfSome result (λ t. IsStoredAt nodes.now.keys t node arguments.now) }
+    ensures none { IfNone result (All (λ e. ¬ IsStored e node arguments.now) nodes.now.keys) }
 {
-    for (i, e) in nodes.iter().enumerate() {
-        if is_stored(e, node, arguments) {
-            return Some(TermId(i as u64));
-        }
+    match nodes.get_index_of(Wanted { node, arguments }) {
+        Some(place) => Some(TermId(place as u64)),
+        None => None,
     }
-    None
 }
 
 /// The id of the node with these arguments: of the one that stands, or else of a new one.
 pub fn place(
     alloc: Global,
-    nodes: &mut Vec<Stored>,
+    nodes: &mut IndexSet<Stored>,
     node: Node,
     arguments: &[TermId],
     kept: Kept,
 ) -> Result<TermId, AllocError>
-    ensures ok { IfOk result (λ t. IsPlaced nodes.old.items nodes.new.items t node arguments.now kept.depth kept.size kept.value) }
-    ensures err { OnErr result (nodes.new.items ≡ nodes.old.items) }
+    ensures ok { IfOk result (λ t. IsPlaced nodes.old.keys nodes.new.keys t node arguments.now kept.depth kept.size kept.value) }
+    ensures err { OnErr result (nodes.new.keys ≡ nodes.old.keys) }
 {
-    match find(nodes.as_slice(), node, arguments) {
+    match find(nodes, node, arguments) {
         Some(t) => Ok(t),
         None => {
             let t = TermId(nodes.len() as u64);
             let arguments = Vec::from_slice(alloc, arguments)?;
-            nodes.push(Stored {
+            nodes.insert(Stored {
                 node,
                 arguments,
                 depth: kept.depth,

@@ -9,7 +9,7 @@ use Rattle.nq_logtext.specs.Fields.{Field, mode, name}
 use Rattle.nq_logtext.specs.Views.{one_name}
 use Rattle.nq_logtext.specs.declared.line.Mode.{Mode}
 use Rattle.nq_logic.specs.Terms.{Name, Each}
-use Rattle.nq_logic.specs.Histories.{History, Part as PartOfTexts, Shell as ShellOfTexts, AddShell, base_symbols, accessor_symbols, events_shells}
+use Rattle.nq_logic.specs.Histories.{History, Part as PartOfTexts, Shell as ShellOfTexts, AddShell, base_symbols, accessor_symbols}
 use Rattle.nq_logic.specs.Names.{is_in_use, symbol_names}
 use Rattle.nq_logic.specs.ShellPrinciple.{first_used, shell_names, shell_refusal, shells_of, ShellRefusal}
 use Rattle.nq_bank.specs.declared.shell.Part.{Part}
@@ -17,8 +17,7 @@ use Rattle.nq_bank.specs.Content.{Content, Grows}
 use Rattle.nq_bank.specs.Shells.{part_at, parts_at, PartStands}
 use Rattle.nq_bank.proofs.Standing.{All-push}
 use Rattle.nq_history.specs.declared.entry.Entry.{Entry}
-use Rattle.nq_history.specs.Events.{all_events_at, events_at, HistoryStands}
-use Rattle.nq_kernel.proofs.EntryLemmas.{ground_first}
+use Rattle.nq_history.specs.Events.{events_at}
 use Rattle.nq_shell.specs.declared.admission.ShellFault.{ShellFault}
 use Rattle.nq_shell.specs.Admission.{AreUsed, answer_at}
 use Rattle.nq_log.specs.States.{Block, State, Step, Adds, Continues, after_claim, start_of, is_empty, only_when}
@@ -92,10 +91,6 @@ pub used_so : (f : Name → Bool) (s : ShellOfTexts) (c b r a : Bool) → f s.co
 used_so f s c b r a of_c of_b of_r of_a = sym (λ i. of_c i || (of_b i || (of_r i || of_a i))) ∙ shell_used f s
 
 -- ---- the Shell Principle
-
--- the shells of the entries are those of the history
-pub shells_same : (bank : Content) (history : List Entry) → HistoryStands bank history → events_shells (all_events_at bank history) ≡ shells_of (events_at bank history)
-shells_same bank history stands = ap events_shells (ground_first bank history stands)
 
 none_used : (f : Name → Bool) (names : List Name) → is_some (first_used f names) ≡ false → Each (λ name. f name ≡ false) names
 none_used f [] e = tt

@@ -20,7 +20,6 @@ use crate::judged::Judged;
 use crate::texts::named_line;
 use nq_bank::{Bank, Part, Shell, Sym};
 use nq_history::{Entry, EntryKind};
-use nq_kernel::shells_among;
 use nq_logtext::{Mode, Text};
 use nq_shell::admit_shell;
 use std::alloc::AllocError;
@@ -196,16 +195,15 @@ impl Context {
     }
 
     /// Does the Shell Principle accept a shell, and is there room for it?
-    fn accepts(&self, shell: &Shell) -> Result<bool, AllocError>
+    fn accepts(&self, shell: &Shell) -> bool
         requires whole { IsWhole self.now }
         requires shell { ShellStands self.now.bank shell.now }
-        ensures { IfOk result (λ b. b ≡ is_none (shell_refusal (λ n. is_in_use n (state_of self.now).history) (shells_of (state_of self.now).history) (shell_at self.now.bank shell.now))) }
+        ensures { result ≡ is_none (shell_refusal (λ n. is_in_use n (state_of self.now).history) (shells_of (state_of self.now).history) (shell_at self.now.bank shell.now)) }
     {
         if self.uses_name_of(shell) {
-            return Ok(false);
+            return false;
         }
-        let shells = shells_among(&self.bank, self.history.entries())?;
-        Ok(admit_shell(&self.bank, shells.as_slice(), &[], shell).is_ok())
+        admit_shell(&self.bank, self.history.shells(), &[], shell).is_ok()
     }
 
     /// Takes the parts that wait, as those of a shell.
@@ -242,7 +240,7 @@ impl Context {
         let text = named_line(self.bank.alloc(), b"SHELL ", constructor)?;
         let mark = self.bank.mark();
         let shell = self.take_shell(constructor, base, recognizer)?;
-        if !self.accepts(&shell)? {
+        if !self.accepts(&shell) {
             return Ok(Judged::NotAllowed);
         }
         self.add_entry(

@@ -27,6 +27,7 @@ pub struct Refusal {
 /// What a form is answered.
 #[derive(Drop)]
 pub enum FormAnswer {
+    /// The event was taken, and needed no proof.
     Accepted,
     /// So many events are gone.
     Undone(u64),
@@ -34,6 +35,7 @@ pub enum FormAnswer {
     Skipped,
     /// The lemma was proved without a search.
     Proved(Quick),
+    /// The form was refused, for this.
     Refused(Refusal),
 }
 

@@ -3,8 +3,10 @@
 pub enum Kind {
     /// Accepted, proved or undone.
     Accepted,
+    /// Refused.
     Refused,
     /// Failed, or out of steps.
     Failed,
+    /// Passed over.
     Skipped,
 }

@@ -12,9 +12,11 @@ use std::alloc::{AllocError, Global};
 /// One form's report: the word and the name of its header, and the answer.
 #[derive(Drop)]
 pub struct FormReport<'a> {
-    /// None where the form is no list that begins with a symbol.
+    /// The symbol that the form begins with. None where it is no list that begins with one.
     pub word: Option<&'a [u8]>,
+    /// The symbol behind the word, of an event that has a name.
     pub name: Option<&'a [u8]>,
+    /// What the form was answered.
     pub answer: FormAnswer,
 }
 
@@ -22,7 +24,9 @@ pub struct FormReport<'a> {
 /// counted from 0.
 #[derive(Clone, Copy, Debug, PartialEq, Eq)]
 pub struct SyntaxFault {
+    /// The code, from 1 to 4.
     pub code: u64,
+    /// The byte, counted from 0.
     pub offset: u64,
 }
 

@@ -6,7 +6,9 @@ use nq_history::{Class, Hints};
 /// A measure that a definition suggests, and the relation by which it is to fall.
 #[derive(Clone, Copy, Debug)]
 pub struct Measure {
+    /// The name of the relation.
     pub relation: Sym,
+    /// The measure, a term over the formals.
     pub term: TermId,
 }
 

@@ -10,7 +10,7 @@ pub record IsFirstByInstance (h : History) (t : Term) : Type 0 where
   pub no_tautology : IsSmallTautology t → ⊥
   pub instance : IsEarlierInstance h t
 
--- no fragment holds the term
+-- no fragment that is built holds the term
 pub record IsInNoFragment (h : History) (t : Term) : Type 0 where
   pub no_tautology : IsSmallTautology t → ⊥
   pub no_instance : IsEarlierInstance h t → ⊥

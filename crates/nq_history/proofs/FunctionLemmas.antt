@@ -1,10 +1,9 @@
 -- The functions of entries are those of their events, and a name is found among them as its text is.
-use Rattle.std.proofs.Common.{◌≡◌, ◌≤◌, ◌<◌, ◌+◌, ℕ, zero, suc, slice_get, Bool, true, false, ◌++◌, List, [], ◌∷◌, Option, Some, None, length, get_or, take, drop, map, append_assoc, refl, sym, ap, ◌∙◌, subst, arith, length-append, take-append-drop, if◌then◌else◌}
+use Rattle.std.proofs.Common.{◌≡◌, ◌≤◌, ◌<◌, ◌+◌, ℕ, zero, suc, slice_get, Bool, true, false, ◌++◌, List, [], ◌∷◌, Option, Some, None, length, get_or, take, drop, map, append_assoc, refl, sym, ap, ◌∙◌, arith, length-append, take-append-drop, if◌then◌else◌}
 use Rattle.std.specs.Prelude.{All, bytes_eq, nat_eq}
 use Rattle.std.specs.Option.{option_map}
 use Rattle.std.proofs.lemmas.List.{map-append, length-map, take_more}
-use Rattle.nq_logic.specs.Terms.{Name, Symbol}
-use Rattle.nq_logic.specs.Histories.{Event, base_symbols, accessor_symbols, shell_symbols, event_symbols, events_symbols}
+use Rattle.nq_logic.specs.Histories.{base_symbols, accessor_symbols, shell_symbols, event_symbols, events_symbols}
 use Rattle.nq_logic.specs.Ground.{ground_history, symbols_of}
 use Rattle.nq_logic.specs.Names.{symbol_names}
 use Rattle.nq_language.specs.Arities.{arity_in}
@@ -21,7 +20,8 @@ use Rattle.nq_history.specs.declared.entry.EntryKind.{EntryKind}
 use Rattle.nq_history.specs.declared.entry.EntryKind.TheVariants as kind
 use Rattle.nq_history.specs.declared.entry.Entry.{Entry}
 use Rattle.nq_history.specs.Events.{event_of, event_at, all_events_at, events_at, KindStands, EntryStands, HistoryStands}
-use Rattle.nq_history.specs.Functions.{base_functions, accessor_functions, shell_functions, kind_functions, entry_functions, functions_of, symbol_at, arity_among, place_in}
+use Rattle.nq_history.specs.Functions.{base_functions, accessor_functions, shell_functions, kind_functions, entry_functions, functions_of, symbol_at, arity_among}
+use Rattle.nq_history.specs.Places.{place_in}
 use Rattle.nq_history.proofs.Lists.{All-none, All-cons}
 use Rattle.nq_history.proofs.LookupLemmas.{all_events_are}
 
@@ -115,6 +115,9 @@ module _ (bank : Content) where
   names_at : (fs : List (Sym × ℕ)) → texts_at bank (map (λ f. f.0) fs) ≡ symbol_names (map (symbol_at bank) fs)
   names_at [] = refl
   names_at (f ∷ fs) = ap (λ xs. text_at bank f.0 ∷ xs) (names_at fs)
+
+  pub function_texts : (entries : List Entry) → texts_at bank (map (λ f. f.0) (functions_of entries)) ≡ symbol_names (events_symbols (all_events_at bank entries))
+  function_texts entries = names_at (functions_of entries) ∙ ap symbol_names (functions_at entries)
 
   pub symbol_texts : (history : List Entry) → HistoryStands bank history → texts_at bank (map (λ f. f.0) (functions_of history)) ≡ symbol_names (symbols_of (events_at bank history))
   symbol_texts history h = names_at (functions_of history) ∙ ap symbol_names (symbols_are history h)

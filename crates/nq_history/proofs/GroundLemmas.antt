@@ -32,7 +32,7 @@ pub ground_grows : (bank : Content) → IsSound bank → Grows ground_content ba
 ground_grows bank sound = record { names = sound.ground.first; terms = refl }
 
 step_stands : (bank : Content) (step : Step) → Grows ground_content bank → is_step step ≡ true → StepStands bank step
-step_stands bank (LeafStep (Letter b)) grows h = tt
+step_stands bank (LeafStep (Letter b)) grows h = h
 step_stands bank (LeafStep (Named s)) grows h = cc
 step_stands bank (LeafStep (PartAt n)) grows h = tt
 step_stands bank (LeafStep (NumberOf n)) grows h = tt

@@ -1,4 +1,6 @@
 pub mod Lists
+pub mod PlaceLemmas
+pub mod CopyLemmas
 pub mod ShellLemmas
 pub mod HistoryLemmas
 pub mod GroundLemmas
@@ -6,4 +8,5 @@ pub mod LookupLemmas
 pub mod MarkingLemmas
 pub mod FunctionLemmas
 pub mod IndexLemmas
+pub mod UseLemmas
 pub mod UndoLemmas

@@ -2,11 +2,11 @@
 use Rattle.std.proofs.Common.{◌≡◌, ◌+◌, ◌<◌, ◌≤◌, ℕ, zero, suc, not, Bool, true, false, ◌||◌, ◌++◌, List, [], ◌∷◌, Option, Some, None, length, get_or, take, drop, map, refl, sym, ap, ◌∙◌, arith}
 use Rattle.std.specs.Prelude.{All, IfSome, bytes_eq, nat_eq, nat_lt, if◌then◌else◌}
 use Rattle.std.specs.Option.{option_map}
-use Rattle.std.proofs.lemmas.List.{take-append-drop, take-append-le, drop-append-le, drop-map, length-map, map_push, at_drop_more}
+use Rattle.std.proofs.lemmas.List.{take-append-drop, take-append-le, drop-append-le, drop-map, length-map, map_push}
 use Rattle.nq_logic.specs.Terms.{Name}
 use Rattle.nq_logic.specs.Histories.{Event}
 use Rattle.nq_logic.specs.Ground.{ground_history, all_events}
-use Rattle.nq_logic.specs.Names.{event_name, event_names, events_names, event_in, has_name, looked_up, before_event, enabled_after, is_enabled}
+use Rattle.nq_logic.specs.Names.{event_name, events_names, event_in, has_name, looked_up, before_event, enabled_after, is_enabled}
 use Rattle.nq_bank.specs.declared.node.Sym.{Sym}
 use Rattle.nq_bank.specs.Content.{Content, IsNamed, text_at}
 use Rattle.nq_bank.specs.Soundness.{IsSound}
@@ -19,11 +19,12 @@ use Rattle.nq_history.specs.declared.entry.EntryKind.TheVariants as kind
 use Rattle.nq_history.specs.declared.entry.Entry.{Entry}
 use Rattle.nq_history.specs.Events.{event_of, event_at, all_events_at, events_at, past_ground, ground_length, KindStands, EntryStands, HistoryStands}
 use Rattle.nq_history.specs.Lookups.{entry_named, kind_enabled, enabled_in, entries_before, undo_fault}
+use Rattle.nq_history.specs.Places.{place_in}
 use Rattle.nq_history.specs.declared.history.UndoFault.TheVariants.{NoSuchEvent, GroundEvent}
 use Rattle.std.proofs.lemmas.Bool.{eqb-false, ltb-true, ltb-false}
 
 -- the event of an entry has the entry's name
-event_name_of : (bank : Content) (name : Sym) (k : EntryKind) → KindStands bank name k → event_name (event_of bank name k) ≡ text_at bank name
+pub event_name_of : (bank : Content) (name : Sym) (k : EntryKind) → KindStands bank name k → event_name (event_of bank name k) ≡ text_at bank name
 event_name_of bank name (kind.Shell shell) h = ap (text_at bank) (sym h.1)
 event_name_of bank name (kind.Dcl n) h = refl
 event_name_of bank name (kind.Defn formals body measure) h = refl
@@ -64,38 +65,18 @@ or_assoc : (a b c : Bool) → (a || (b || c)) ≡ ((a || b) || c)
 or_assoc true b c = refl
 or_assoc false b c = refl
 
-has_name-append : (x : Name) (ys zs : List Name) → has_name x (ys ++ zs) ≡ (has_name x ys || has_name x zs)
+pub has_name-append : (x : Name) (ys zs : List Name) → has_name x (ys ++ zs) ≡ (has_name x ys || has_name x zs)
 has_name-append x [] zs = refl
 has_name-append x (y ∷ ys) zs = ap (λ b. bytes_eq x y || b) (has_name-append x ys zs) ∙ or_assoc (bytes_eq x y) (has_name x ys) (has_name x zs)
 
--- a name is used by the entries left, where the next one brings it, or where it does not and the later ones use it
-pub used_left : (bank : Content) (x : Name) (entries : List Entry) (i : ℕ) (e : Entry) → i < length entries → e ≡ get_or entries i e → has_name x (events_names (all_events_at bank (drop i entries))) ≡ (has_name x (event_names (event_at bank e)) || has_name x (events_names (all_events_at bank (drop (i + 1) entries))))
-used_left bank x entries i e below is =
-    at_drop_more (λ rest. has_name x (events_names (all_events_at bank rest))) entries i e below ∙
-    ap (λ here. has_name x (event_names (event_at bank here) ++ events_names (all_events_at bank (drop (i + 1) entries)))) (sym is) ∙
-    has_name-append x (event_names (event_at bank e)) (events_names (all_events_at bank (drop (i + 1) entries)))
-
--- a name that stands twice at the front of a list
-pub twice : (b : Bool) → b ≡ (b || (b || false))
-twice true = refl
-twice false = refl
-
+-- one of two tests tells alone where the other fails
 pub once : (b : Bool) → b ≡ (b || false)
 once true = refl
 once false = refl
 
--- the constructor's name stands in front again
-pub again : (a b c : Bool) → a ≡ (b || c) → a ≡ (b || (b || c))
-again a true c h = h
-again a false c h = h
-
 pub or_false : (a b : Bool) → a ≡ false → (a || b) ≡ b
 or_false true b h = cc
 or_false false b h = refl
-
-pub or_true : (a b : Bool) → a ≡ true → (a || b) ≡ true
-or_true true b h = refl
-or_true false b h = cc
 
 -- a history that an entry was added to
 module _ (bank : Content) (history : List Entry) (e : Entry) (h : HistoryStands bank history) (k : EntryStands bank e) where
@@ -169,11 +150,52 @@ named_at name (other ∷ entries) e h = place (nat_eq name.0 other.name.0) h (na
     place true k later = cc
     place false k later = later k
 
--- one more entry has not the name
-pub before_left : (name : Sym) (entries : List Entry) (i : ℕ) (e : Entry) → i < length entries → e ≡ get_or entries i e → length (entries_before name (drop i entries)) ≡ length (if nat_eq name.0 e.name.0 then [] else e ∷ entries_before name (drop (i + 1) entries))
-before_left name entries i e below is =
-    at_drop_more (λ rest. length (entries_before name rest)) entries i e below ∙
-    ap (λ here. length (entries_before name (here ∷ drop (i + 1) entries))) (sym is)
+-- an entry is found by the first place of its name
+abbrev names_of : List Entry → List Sym
+names_of entries = map (λ e. e.name) entries
+
+pub entry_at_place : (name : Sym) (entries : List Entry) (i : ℕ) → place_in name (names_of entries) ≡ Some i → (e : Entry) → e ≡ get_or entries i e → entry_named name entries ≡ Some e
+entry_at_place name [] i h e is = cc
+entry_at_place name (other ∷ entries) i h e is = pick (nat_eq name.0 other.name.0) (place_in name (names_of entries)) i h is (entry_at_place name entries)
+  where
+    pick : (b : Bool) (o : Option ℕ) (i : ℕ) → (if b then Some 0 else option_map suc o) ≡ Some i → e ≡ get_or (other ∷ entries) i e → ((j : ℕ) → o ≡ Some j → (d : Entry) → d ≡ get_or entries j d → entry_named name entries ≡ Some d) → (if b then Some other else entry_named name entries) ≡ Some e
+    pick true o zero k is later = ap Some (sym is)
+    pick true o (suc i) k is later = cc
+    pick false None i k is later = cc
+    pick false (Some j) zero k is later = cc
+    pick false (Some j) (suc i) k is later =
+        let found : Some j ≡ Some i = cc in
+        later i found e is
+
+pub no_entry : (name : Sym) (entries : List Entry) → place_in name (names_of entries) ≡ None → entry_named name entries ≡ None
+no_entry name [] h = refl
+no_entry name (other ∷ entries) h = pick (nat_eq name.0 other.name.0) (place_in name (names_of entries)) h (no_entry name entries)
+  where
+    pick : (b : Bool) (o : Option ℕ) → (if b then Some 0 else option_map suc o) ≡ None → (o ≡ None → entry_named name entries ≡ None) → (if b then Some other else entry_named name entries) ≡ None
+    pick true o k later = cc
+    pick false None k later = later refl
+    pick false (Some j) k later = cc
+
+-- so many entries stand before it
+pub before_place : (name : Sym) (entries : List Entry) (i : ℕ) → place_in name (names_of entries) ≡ Some i → i ≡ length (entries_before name entries)
+before_place name [] i h = cc
+before_place name (other ∷ entries) i h = pick (nat_eq name.0 other.name.0) (place_in name (names_of entries)) i h (before_place name entries)
+  where
+    pick : (b : Bool) (o : Option ℕ) (i : ℕ) → (if b then Some 0 else option_map suc o) ≡ Some i → ((j : ℕ) → o ≡ Some j → j ≡ length (entries_before name entries)) → i ≡ length (if b then [] else other ∷ entries_before name entries)
+    pick true o zero k later = refl
+    pick true o (suc i) k later = cc
+    pick false None i k later = cc
+    pick false (Some j) zero k later = cc
+    pick false (Some j) (suc i) k later = ap suc (later i cc)
+
+pub all_before : (name : Sym) (entries : List Entry) → place_in name (names_of entries) ≡ None → length entries ≡ length (entries_before name entries)
+all_before name [] h = refl
+all_before name (other ∷ entries) h = pick (nat_eq name.0 other.name.0) (place_in name (names_of entries)) h (all_before name entries)
+  where
+    pick : (b : Bool) (o : Option ℕ) → (if b then Some 0 else option_map suc o) ≡ None → (o ≡ None → length entries ≡ length (entries_before name entries)) → suc (length entries) ≡ length (if b then [] else other ∷ entries_before name entries)
+    pick true o k later = cc
+    pick false None k later = ap suc (later refl)
+    pick false (Some j) k later = cc
 
 -- an undo that has no fault
 pub undo_place : (name : Sym) (entries : List Entry) (kept count : ℕ) → kept ≡ length (entries_before name entries) → count ≡ length entries → undo_fault kept count ≡ None → (kept < length entries) × (ground_length ≤ kept)

@@ -12,7 +12,7 @@ use Rattle.nq_steps.specs.declared.steps.Leaf.{Leaf}
 use Rattle.nq_steps.specs.declared.steps.Leaf.TheVariants.{Letter, Name as Named, Part as PartAt, Number as NumberOf, Known}
 use Rattle.nq_steps.specs.declared.steps.Step.{Step}
 use Rattle.nq_steps.specs.declared.steps.Step.TheVariants.{Leaf as LeafStep, Call}
-use Rattle.nq_steps.specs.Steps.{stack_of}
+use Rattle.nq_steps.specs.Steps.{is_letter, stack_of}
 use Rattle.nq_history.specs.declared.ground_table.PartRow.{PartRow}
 use Rattle.nq_history.specs.declared.ground_table.PartRow.TheVariants.{Number, Any}
 use Rattle.nq_history.specs.declared.ground_table.Row.{Row}
@@ -62,9 +62,9 @@ first_of (t ∷ ts) = t
 abbrev pub made_of : List Step → Term
 made_of steps = first_of (stack_of ground_content steps)
 
--- the steps name variables by letters, and functions that are ground names
+-- the steps name variables by letters in upper case, and functions that are ground names
 abbrev pub is_leaf : Leaf → Bool
-is_leaf (Letter b) = true
+is_leaf (Letter b) = is_letter b
 is_leaf (Named s) = false
 is_leaf (PartAt n) = false
 is_leaf (NumberOf n) = true

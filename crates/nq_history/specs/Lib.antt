@@ -4,3 +4,5 @@ pub mod GroundTable
 pub mod Hints
 pub mod Lookups
 pub mod Marking
+pub mod Places
+pub mod ShellLists

@@ -1,11 +1,10 @@
 -- What is looked for in a history.
-use Rattle.std.specs.Prelude.{◌≡◌, ℕ, ◌-◌, nat_eq, nat_lt, nat_le, not, Bool, true, false, bytes_eq, if◌then◌else◌, List, [], ◌∷◌, length, Option, Some, None, is_some, Result, Ok, Err}
+use Rattle.std.specs.Prelude.{◌≡◌, ℕ, ◌-◌, nat_eq, nat_lt, nat_le, not, Bool, true, false, if◌then◌else◌, List, [], ◌∷◌, length, Option, Some, None, is_some, Result, Ok, Err}
 use Rattle.nq_logic.specs.Terms.{Name}
 use Rattle.nq_logic.specs.Histories.{History}
 use Rattle.nq_logic.specs.Ground.{ground_history}
 use Rattle.nq_logic.specs.Names.{before_event, event_in, looked_up}
 use Rattle.nq_bank.specs.declared.node.Sym.{Sym}
-use Rattle.nq_bank.specs.Content.{Content, text_at}
 use Rattle.nq_history.specs.declared.entry.Entry.{Entry}
 use Rattle.nq_history.specs.Events.{ground_length}
 use Rattle.nq_history.specs.declared.entry.EntryKind.{EntryKind}
@@ -19,11 +18,6 @@ use Rattle.nq_history.specs.declared.history.PushFault.TheVariants.{NameInUse, T
 abbrev pub entry_named : Sym → List Entry → Option Entry
 entry_named name [] = None
 entry_named name (e ∷ entries) = if nat_eq name.0 e.name.0 then Some e else entry_named name entries
-
--- the text is the base's name
-abbrev pub is_base_name : Content → List ℕ → Option Sym → Bool
-is_base_name bank text None = false
-is_base_name bank text (Some s) = bytes_eq text (text_at bank s)
 
 -- the greatest number of events past the ground history
 abbrev pub event_limit : ℕ

@@ -30,7 +30,10 @@ pub enum EntryKind {
 /// An event of a history, under its name, with where the bank ended before it.
 #[derive(Debug, Drop)]
 pub struct Entry {
+    /// The name of the event; that of a shell is its constructor.
     pub name: Sym,
+    /// What the event brings.
     pub kind: EntryKind,
+    /// Where the bank ended before the event: an undo releases it to here.
     pub mark: Mark,
 }

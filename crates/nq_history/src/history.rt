@@ -13,14 +13,16 @@ ghost use Rattle.nq_history.specs.Lookups.{enabled_in, entries_before, entry_nam
 ghost use Rattle.nq_logic.specs.Ground.{ground_history, symbols_of};
 ghost use Rattle.nq_language.specs.Arities.{arity_in};
 ghost use Rattle.nq_history.specs.Functions.{arity_among, functions_of};
-ghost use Rattle.nq_bank.specs.Shells.{texts_at};
+ghost use Rattle.nq_bank.specs.Shells.{shells_at, texts_at, ShellStands};
+ghost use Rattle.nq_logic.specs.Histories.{events_shells};
+ghost use Rattle.nq_logic.specs.ShellPrinciple.{shells_of};
 
 use crate::entry::{Entry, EntryKind};
 use crate::ground_entries::ground_entries;
 use crate::index::{Index, index_of};
-use crate::lookup::{count_before, entry_among, is_enabled_among, is_used_among};
+use crate::lookup::is_enabled_among;
 use crate::reserved::is_reserved;
-use nq_bank::{Bank, Sym, TermId, is_same_name};
+use nq_bank::{Bank, Shell, Sym, TermId, is_same_name};
 use std::alloc::{AllocError, Global};
 use std::marker::Model;
 use thiserror::Error;
@@ -137,7 +139,10 @@ impl History {
         // Over each bank it is the event that the logic looks up under the name's text.
         ensures event { (bank : Content) → IsSound bank → HistoryStands bank self.now → IsNamed bank name → option_map (event_at bank) (option_copied result) ≡ looked_up (text_at bank name) (events_at bank self.now) }
     {
-        entry_among(self.entries.as_slice(), name)
+        match self.index.events.place(name) {
+            Some(place) => Some(&self.entries[place]),
+            None => None,
+        }
     }
 
     /// Has the history an event or a function of this name, or is the name always in use? It takes no memory.
@@ -146,7 +151,8 @@ impl History {
         requires name { IsNamed bank.now name }
         ensures { result ≡ is_in_use (text_at bank.now name) (events_at bank.now self.now) }
     {
-        is_reserved(bank.text(name)) || is_used_among(bank, self.entries.as_slice(), name)
+        bank.is_sound();
+        is_reserved(bank.text(name)) || self.index.has(name)
     }
 
     /// How many arguments the history's function of this name has; none where it has no such function. It takes no memory.
@@ -166,6 +172,16 @@ impl History {
         ensures stand { (bank : Content) → HistoryStands bank self.now → All (IsNamed bank) result.now }
     {
         self.index.functions.as_slice()
+    }
+
+    /// The shells of the history, those of the ground history first. It takes no memory.
+    pub fn shells(&self) -> &[Shell]
+        // Over each bank they are the shells that its events add.
+        ensures shells { (bank : Content) → shells_at bank result.now ≡ events_shells (all_events_at bank self.now) }
+        ensures logic { (bank : Content) → HistoryStands bank self.now → shells_at bank result.now ≡ shells_of (events_at bank self.now) }
+        ensures stand { (bank : Content) → HistoryStands bank self.now → All (ShellStands bank) result.now }
+    {
+        self.index.shells.as_slice()
     }
 
     /// Is this name enabled: was the last event that disables or enables it, if there is one, no disabling? It takes no memory.
@@ -237,6 +253,16 @@ impl History {
         self.add(bank.alloc(), entry)
     }
 
+    /// How many entries stand before the first one of this name, or all where none has it.
+    fn count_before(&self, name: Sym) -> usize
+        ensures { result ≡ length (entries_before name self.now) }
+    {
+        match self.index.events.place(name) {
+            Some(place) => place,
+            None => self.entries.len(),
+        }
+    }
+
     /// How many events an undo of this name would take away, or why it would be refused. It takes no memory.
     pub fn undo_count(&self, name: Sym) -> Result<u64, UndoFault>
         ensures answer { result ≡ undo_answer (length (entries_before name self.now)) (length self.now) }
@@ -244,7 +270,7 @@ impl History {
         // Over each bank it is as the logic says of the name's text.
         ensures events { (bank : Content) → IsSound bank → HistoryStands bank self.now → IsNamed bank name → IsUndo (text_at bank name) (events_at bank self.now) result }
     {
-        let kept = count_before(self.entries.as_slice(), name);
+        let kept = self.count_before(name);
         match undo_fault(kept, self.entries.len()) {
             Some(fault) => Err(fault),
             None => Ok((self.entries.len() - kept) as u64),
@@ -273,7 +299,7 @@ impl History {
         ensures err { OnErr result (self.new ≡ self.old) }
         ensures err_bank { OnErr result (bank.new ≡ bank.old) }
     {
-        let kept = count_before(self.entries.as_slice(), name);
+        let kept = self.count_before(name);
         match undo_fault(kept, self.entries.len()) {
             Some(fault) => Err(fault),
             None => {

@@ -1,15 +1,17 @@
-//! What stands beside the entries, so that a name is found without a walk through them.
-ghost use Rattle.std.specs.Prelude.{◌≡◌, ◌≤◌, List, [], ◌∷◌, ◌++◌, length, map, take, IfOk, OnErr, OnOk};
+//! What stands beside the entries: names and functions are found in it without a walk, and the shells are a list of their own.
+ghost use Rattle.std.specs.Prelude.{◌≡◌, ◌≤◌, ◌||◌, is_some, List, [], ◌∷◌, ◌++◌, length, map, take, IfOk, OnErr, OnOk};
 ghost use Rattle.nq_history.specs.declared.entry.Entry.{Entry};
 ghost use Rattle.nq_history.specs.Functions.{arity_among, functions_of, IsIndexOf, BeginsWith, HasAdded};
+ghost use Rattle.nq_history.specs.Places.{place_in};
 
 use crate::entry::Entry;
 use crate::functions::{count_of_entry, functions_of_entry};
 use crate::names::Names;
-use nq_bank::Sym;
+use crate::shell_list::{count_shells, put_shell};
+use nq_bank::{Shell, Sym};
 use std::alloc::{AllocError, Global};
 
-/// The names of the events, and the functions with their numbers of arguments, each in the order of the entries.
+/// The names of the events, the functions with their numbers of arguments, and the shells, each in the order of the entries.
 #[derive(Drop)]
 pub struct Index {
     /// The name of each event.
@@ -18,6 +20,8 @@ pub struct Index {
     pub functions: Names,
     /// The number of arguments of each function.
     pub arities: Vec<u64>,
+    /// A copy of each shell that the events brought.
+    pub shells: Vec<Shell>,
 }
 
 /// Puts functions, and their numbers of arguments, at the end. After an error some may have been put.
@@ -59,7 +63,15 @@ impl Index {
             events: Names::new(alloc),
             functions: Names::new(alloc),
             arities: Vec::new(alloc),
+            shells: Vec::new(alloc),
         }
+    }
+
+    /// Has an event or a function this name?
+    pub fn has(&self, name: Sym) -> bool
+        ensures { result ≡ (is_some (place_in name self.now.events) || is_some (place_in name self.now.functions)) }
+    {
+        self.events.place(name).is_some() || self.functions.place(name).is_some()
     }
 
     /// The number of arguments of the first function of this name.
@@ -79,18 +91,21 @@ impl Index {
     {
         let functions = functions_of_entry(alloc, e)?;
         put_functions(&mut self.functions, &mut self.arities, functions.as_slice())?;
+        put_shell(alloc, &mut self.shells, e)?;
         self.events.push(e.name)
     }
 
-    /// Keeps the first events and functions.
-    fn truncate(&mut self, events: usize, functions: usize)
+    /// Keeps the first events, functions and shells.
+    fn truncate(&mut self, events: usize, functions: usize, shells: usize)
         ensures events { self.new.events ≡ take events self.old.events }
         ensures functions { self.new.functions ≡ take functions self.old.functions }
         ensures arities { self.new.arities.items ≡ take functions self.old.arities.items }
+        ensures shells { self.new.shells.items ≡ take shells self.old.shells.items }
     {
         self.events.truncate(events);
         self.functions.truncate(functions);
         self.arities.truncate(functions);
+        self.shells.truncate(shells);
     }
 
     /// Adds what an entry brings. After an error nothing was added.
@@ -100,10 +115,11 @@ impl Index {
     {
         let events = self.events.len();
         let functions = self.functions.len();
+        let shells = self.shells.len();
         match self.put(alloc, e) {
             Ok(()) => Ok(()),
             Err(fault) => {
-                self.truncate(events, functions);
+                self.truncate(events, functions, shells);
                 Err(fault)
             }
         }
@@ -116,8 +132,9 @@ impl Index {
     {
         let most = self.functions.len();
         let functions = count_functions(kept, most);
+        let shells = count_shells(kept);
         let events = kept.len();
-        self.truncate(events, functions);
+        self.truncate(events, functions, shells);
     }
 }
 

@@ -16,14 +16,15 @@ mod ground_table;
 // what the hints of a lemma say
 mod hints;
 
-// names that are always in use, and what is looked for among entries
+// names that are always in use, and names that are enabled
 mod lookup;
 mod reserved;
 
-// what stands beside the entries: names by their first places, and functions
+// what stands beside the entries: names by their first places, functions, and shells
 mod functions;
 mod index;
 mod names;
+mod shell_list;
 
 // the events
 mod history;

@@ -1,7 +1,7 @@
 ghost use Rattle.std.specs.Prelude.{◌≡◌, nat_lt, length};
 
 use super::*;
-use nq_bank::{Bank, Sym, ground, ground_name};
+use nq_bank::{Bank, Shell, Sym, ground, ground_name};
 use std::process::Abort;
 use std::test::Fail;
 
@@ -67,5 +67,52 @@ fn a_name_in_use_is_refused(rt: HostRuntime) -> Result<(), Fail> {
     };
     assert_eq!(rt; history.push(&bank, entry), Err(PushFault::NameInUse));
     assert!(rt; history.enabled(ground::PLUS));
+    Ok(())
+}
+
+/// Are these the constructors of the shells, in their order?
+fn has_constructors(shells: &[Shell], constructors: &[Sym]) -> bool {
+    if shells.len() != constructors.len() {
+        return false;
+    }
+    for (i, shell) in shells.iter().enumerate() {
+        if shell.constructor.0 != constructors[i].0 {
+            return false;
+        }
+    }
+    true
+}
+
+#[test]
+fn a_shell_is_listed_until_it_is_undone(rt: HostRuntime) -> Result<(), Fail> {
+    let mut bank = Bank::new(rt.alloc())?;
+    let constructor = bank.name(b"BOX")?;
+    let recognizer = bank.name(b"BOXP")?;
+    let mut history = History::ground(&mut bank)?;
+    let ground_shells = [ground::ADD1, ground::CONS, ground::PACK, ground::MINUS];
+    assert!(rt; has_constructors(history.shells(), &ground_shells));
+    assert!(rt; has_name(&bank, constructor) && has_name(&bank, recognizer));
+    let shell = Shell {
+        constructor,
+        base: None,
+        recognizer,
+        parts: Vec::new(rt.alloc()),
+    };
+    let entry = Entry {
+        name: constructor,
+        kind: EntryKind::Shell(shell),
+        mark: bank.mark(),
+    };
+    history.push(&bank, entry)?;
+    let shells = [
+        ground::ADD1,
+        ground::CONS,
+        ground::PACK,
+        ground::MINUS,
+        constructor,
+    ];
+    assert!(rt; has_constructors(history.shells(), &shells));
+    assert_eq!(rt; history.undo_back_through(&mut bank, constructor), Ok(1));
+    assert!(rt; has_constructors(history.shells(), &ground_shells));
     Ok(())
 }

@@ -6,6 +6,8 @@ use Rattle.std.proofs.lemmas.List.{take_all}
 use Rattle.nq_bank.specs.declared.node.TermId.{TermId}
 use Rattle.nq_bank.specs.Content.{Content, Grows, terms_at}
 use Rattle.nq_bank.proofs.Growth.{Grows-refl, Grows-trans, IsNamed-grown, terms_at-grown}
+use Rattle.nq_steps.specs.NewNames.{AddsSymbols}
+use Rattle.nq_steps.proofs.NameLemmas.{AddsSymbols-refl, AddsSymbols-trans}
 use Rattle.nq_proof.specs.Clauses.{Clause}
 use Rattle.nq_history.specs.declared.entry.Entry.{Entry}
 use Rattle.nq_history.proofs.HistoryLemmas.{history_grown}
@@ -64,10 +66,11 @@ stands_without_line history old bank log counter stands grows same =
     }
 
 -- a line was added, and steps perhaps counted
-pub grows_by_line : (history : List Entry) (old : Work) (bank : Content) (log : List Line) (counter : Counting) (rule : Rule) (n : ℕ) → WorkStands history old → RuleStands old.bank rule → RuleIsIn old.bank history rule → Grows old.bank bank → Adds old.bank bank history old.log log rule n → CountsUp old.counter counter → WorkGrows history old (record { bank = bank; log = log; counter = counter; known = old.known })
-grows_by_line history old bank log counter rule n stands named over grows adds counts =
+pub grows_by_line : (history : List Entry) (old : Work) (bank : Content) (log : List Line) (counter : Counting) (rule : Rule) (n : ℕ) → WorkStands history old → RuleStands old.bank rule → RuleIsIn old.bank history rule → Grows old.bank bank → AddsSymbols old.bank bank → Adds old.bank bank history old.log log rule n → CountsUp old.counter counter → WorkGrows history old (record { bank = bank; log = log; counter = counter; known = old.known })
+grows_by_line history old bank log counter rule n stands named over grows symbols adds counts =
     record {
       bank = grows;
+      names = symbols;
       log = added_grows old.bank bank history old.log log rule n grows (fits history old stands) named adds;
       rules = added_rule IsVariable old.bank bank history grows stands.history old.log log rule n named over adds;
       counter = counts;
@@ -75,10 +78,11 @@ grows_by_line history old bank log counter rule n stands named over grows adds c
     }
 
 -- no line was added, but terms perhaps, and steps perhaps counted
-pub grows_without_line : (history : List Entry) (old : Work) (bank : Content) (log : List Line) (counter : Counting) → WorkStands history old → Grows old.bank bank → log ≡ old.log → CountsUp old.counter counter → WorkGrows history old (record { bank = bank; log = log; counter = counter; known = old.known })
-grows_without_line history old bank log counter stands grows same counts =
+pub grows_without_line : (history : List Entry) (old : Work) (bank : Content) (log : List Line) (counter : Counting) → WorkStands history old → Grows old.bank bank → AddsSymbols old.bank bank → log ≡ old.log → CountsUp old.counter counter → WorkGrows history old (record { bank = bank; log = log; counter = counter; known = old.known })
+grows_without_line history old bank log counter stands grows symbols same counts =
     record {
       bank = grows;
+      names = symbols;
       log = same_log bank history old.log log same;
       rules = none_over IsVariable bank history old.log log same;
       counter = counts;
@@ -86,13 +90,14 @@ grows_without_line history old bank log counter stands grows same counts =
     }
 
 -- work whose log stays
-pub bank_grows : (history : List Entry) (old : Work) (bank : Content) (counter : Counting) → WorkStands history old → Grows old.bank bank → CountsUp old.counter counter → WorkGrows history old (record { bank = bank; log = old.log; counter = counter; known = old.known })
-bank_grows history old bank counter stands grows counts = grows_without_line history old bank old.log counter stands grows refl counts
+pub bank_grows : (history : List Entry) (old : Work) (bank : Content) (counter : Counting) → WorkStands history old → Grows old.bank bank → AddsSymbols old.bank bank → CountsUp old.counter counter → WorkGrows history old (record { bank = bank; log = old.log; counter = counter; known = old.known })
+bank_grows history old bank counter stands grows symbols counts = grows_without_line history old bank old.log counter stands grows symbols refl counts
 
 pub WorkGrows-refl : (history : List Entry) (work : Work) → WorkStands history work → WorkGrows history work work
 WorkGrows-refl history work stands =
     record {
       bank = Grows-refl work.bank;
+      names = AddsSymbols-refl work.bank;
       log = LogGrows-refl work.bank history work.log;
       rules = none_over IsVariable work.bank history work.log work.log refl;
       counter = uncounted work.counter;
@@ -103,6 +108,7 @@ pub WorkGrows-trans : (history : List Entry) (first second third : Work) → Wor
 WorkGrows-trans history first second third one two =
     record {
       bank = Grows-trans first.bank second.bank third.bank one.bank two.bank;
+      names = AddsSymbols-trans first.bank second.bank third.bank one.names two.names;
       log = LogGrows-trans second.bank third.bank history first.log second.log third.log two.bank (fits history second one.stands) one.log two.log;
       rules = RulesAreOver-trans IsVariable second.bank third.bank history two.bank one.stands.history first.log second.log third.log one.log two.log.kept one.rules two.rules;
       counter = record { used = omega (arith, one.counter.used, two.counter.used); limit = two.counter.limit ∙ one.counter.limit };

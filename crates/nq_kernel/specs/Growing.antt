@@ -1,6 +1,7 @@
 -- How the work of a prover grows.
 use Rattle.std.specs.Prelude.{◌≡◌, ◌≤◌, ◌<◌, ◌+◌, ◌-◌, ℕ, true, unwrap_or, All, IsSome, [], List, Some, length, take, slice_get}
 use Rattle.nq_bank.specs.Content.{Content, Grows, IsNamed}
+use Rattle.nq_steps.specs.NewNames.{AddsSymbols}
 use Rattle.nq_proof.specs.Clauses.{Clause}
 use Rattle.nq_kernel.specs.declared.rule.Line.{Line}
 use Rattle.nq_kernel.specs.declared.prescription.Prescription.{Prescription}
@@ -47,10 +48,11 @@ pub record WorkStands (entries : List Entry) (work : Work) : Type 0 where
   pub history : HistoryStands work.bank entries
   pub known : All (PrescriptionStands work.bank work.log) work.known.items
 
--- Terms and lines stay, and steps are only added. New lines are legal, and their rules are over the history's functions, with
--- variables that a log can spell.
+-- Terms and lines stay, and steps are only added. New names are symbols in upper case. New lines are legal, and their rules
+-- are over the history's functions, with variables that a log can spell.
 pub record WorkGrows (history : List Entry) (old new : Work) : Type 0 where
   pub bank : Grows old.bank new.bank
+  pub names : AddsSymbols old.bank new.bank
   pub log : LogGrows new.bank history old.log new.log
   pub rules : RulesAreOver IsVariable new.bank history (length old.log) new.log
   pub counter : CountsUp old.counter new.counter

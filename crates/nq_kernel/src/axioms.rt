@@ -4,13 +4,13 @@ ghost use Rattle.nq_bank.specs.Content.{IsNamed, Grows, text_at};
 ghost use Rattle.nq_proof.specs.Clauses.{distinct};
 ghost use Rattle.nq_proof.specs.Rows.{axiom_clause};
 ghost use Rattle.nq_proof.specs.Rules.{given};
+ghost use Rattle.nq_steps.specs.NewNames.{AddsSymbols};
 ghost use Rattle.nq_steps.specs.Steps.{stack_of, StepStands};
 ghost use Rattle.nq_axiom.specs.Drafts.{draft_at, DraftStands};
 ghost use Rattle.nq_rule.specs.Conclusions.{Concludes, IsDeep};
 ghost use Rattle.nq_history.specs.Events.{events_at, HistoryStands};
 
 use crate::definitions::definition_among;
-use crate::shells::shells_among;
 use nq_axiom::axiom_steps;
 use nq_bank::{Bank, BankFault, Sym, TermId};
 use nq_history::History;
@@ -32,8 +32,7 @@ fn steps_of_axiom(
     ensures axiom { IfOk result (λ draft. draft_at bank.now draft ≡ axiom_clause (events_at bank.now history.now) (text_at bank.now name) row part) }
 {
     let definition = definition_among(bank, history.entries(), name);
-    let shells = shells_among(bank, history.entries())?;
-    axiom_steps(bank, definition, shells.as_slice(), name, row, part)
+    axiom_steps(bank, definition, history.shells(), name, row, part)
 }
 
 /// Has a history an axiom of this name, in this row, for this part?
@@ -56,6 +55,7 @@ fn clause_of_steps(bank: &mut Bank, steps: &[Step]) -> Result<Vec<TermId>, BankF
     requires { All (StepStands bank.old) steps.now }
     ensures ok { IfOk result (λ c. Concludes bank.new c.items (Some (distinct (reverse (stack_of bank.old steps.now))))) }
     ensures grows { Grows bank.old bank.new }
+    ensures symbols { AddsSymbols bank.old bank.new }
     ensures deep { result ≡ Err BankFault.Deep → IsDeep (Some (distinct (reverse (stack_of bank.old steps.now)))) }
 {
     let literals = take_steps(bank, steps)?;
@@ -75,6 +75,7 @@ pub fn clause_of_axiom(
     requires axiom { IsSome (axiom_clause (events_at bank.old history.now) (text_at bank.old name) row part) }
     ensures ok { IfOk result (λ c. Concludes bank.new c.items (given (axiom_clause (events_at bank.old history.now) (text_at bank.old name) row part) (λ c. Some (distinct c)))) }
     ensures grows { Grows bank.old bank.new }
+    ensures symbols { AddsSymbols bank.old bank.new }
     ensures deep { result ≡ Err BankFault.Deep → IsDeep (given (axiom_clause (events_at bank.old history.now) (text_at bank.old name) row part) (λ c. Some (distinct c))) }
 {
     let Ok(draft) = steps_of_axiom(bank, history, name, row, part) else {

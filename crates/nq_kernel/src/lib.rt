@@ -6,10 +6,9 @@ ghost use Rattle.nq_kernel.specs.Laws.{SoundLine, SoundLog};
 // rules and lines
 mod rule;
 
-// the axioms of a history: its definitions, its shells, and all rows
+// the axioms of a history: its definitions, and all rows
 mod axioms;
 mod definitions;
-mod shells;
 
 // the inductions that lines show
 mod inductions;
@@ -37,7 +36,6 @@ use nq_arith::full_soundness;
 pub use prescription::Prescription;
 pub use prover::Prover;
 pub use rule::{Line, Rule};
-pub use shells::shells_among;
 pub use verdict::{Cause, MoveKind, Path, PathStep, Proof, Quick, Verdict};
 pub use work::{Stop, Work};
 

@@ -2,6 +2,7 @@
 ghost use Rattle.std.specs.Prelude.{◌≡◌, ◌+◌, ◌-◌, ◌<◌, ◌≤◌, ◌^◌, ◌++◌, ◌∷◌, [], ℕ, false, length, All, IfOk, OnOk, OnErr, IsSome, is_some, IfSome, ◌&&◌, Some, None, Err, slice_set};
 ghost use Rattle.std.specs.Option.{option_copied, option_map};
 ghost use Rattle.nq_bank.specs.Content.{Content, Grows, Stands, term_at};
+ghost use Rattle.nq_steps.specs.NewNames.{AddsSymbols};
 ghost use Rattle.nq_clause.specs.Substitution.{substitution_at, PairStands};
 ghost use Rattle.nq_proof.specs.Clauses.{literal_at};
 ghost use Rattle.nq_proof.specs.Paths.{under_two_nots, if_parts};
@@ -291,6 +292,7 @@ impl Log {
         ensures grows { Grows bank.old bank.new }
         ensures deep { result ≡ Err BankFault.Deep → IsDeep (conclusion_at bank.old history.now self.now rule.now) }
         ensures names { is_axiom_row rule.now ≡ false → bank.new.names ≡ bank.old.names }
+        ensures symbols { AddsSymbols bank.old bank.new }
     {
         match rule {
             Rule::Taut(terms) => clause_of(bank, terms.as_slice()),
@@ -346,8 +348,9 @@ impl Log {
         ensures deep { result ≡ Err BankFault.Deep → IsDeep (conclusion_at bank.old history.now self.old rule) }
         ensures shallow { OnOk result (IsDeep (conclusion_at bank.old history.now self.old rule) → ⊥) }
 
-        // Only the row of an axiom brings names, those of its variables.
+        // Only the row of an axiom brings names, those of its variables, which are symbols in upper case.
         ensures names { is_axiom_row rule ≡ false → bank.new.names ≡ bank.old.names }
+        ensures symbols { AddsSymbols bank.old bank.new }
     {
         let clause = self.conclude(bank, history, &rule)?;
         bank.is_sound();

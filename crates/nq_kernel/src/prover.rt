@@ -36,7 +36,8 @@ pub trait Prover {
     /// Proves a lemma. The line of a proof has only the lemma. A lemma is proved by a fragment exactly where it is in one,
     /// and by the first that holds it, whatever the hints are and however many steps are left. Steps run out only where the
     /// counter is at its limit. No line is dropped, and each new one is made by a rule of the history over the lines before
-    /// it. Whatever it answers, it has learnt what it had learnt.
+    /// it. Each name that is new in the bank is a symbol in upper case. Whatever it answers, it has learnt what it had
+    /// learnt.
     fn prove(
         &mut self,
         work: &mut Work,

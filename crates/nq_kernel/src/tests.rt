@@ -3,6 +3,7 @@ ghost use Rattle.nq_bank.specs.GroundNames.{ground_count};
 ghost use Rattle.nq_bank.specs.Content.{Stands};
 ghost use Rattle.nq_clause.specs.Substitution.{PairStands};
 ghost use Rattle.nq_rule.specs.Inductions.{CaseStands, HypothesisStands};
+ghost use Rattle.nq_history.specs.Events.{HistoryStands};
 ghost use Rattle.nq_kernel.specs.Growing.{WorkStands};
 ghost use Rattle.nq_kernel.specs.Meaning.{RuleStands};
 
@@ -97,6 +98,15 @@ fn rule_stands(bank: &Bank, rule: &Rule) -> bool
     }
 }
 
+/// Work on a bank over a history, with an empty log.
+fn work_over(bank: Bank, history: &History) -> Work
+    requires { HistoryStands bank history.now }
+    ensures { WorkStands history.now result }
+{
+    let log = Log::new(bank.alloc());
+    Work::new(bank, log, 1000)
+}
+
 fn call(
     rt: &impl Abort,
     work: &mut Work,
@@ -159,7 +169,7 @@ fn a_call_on_values_equals_its_value(rt: HostRuntime) -> Result<(), Fail> {
     let three = bank.num(3)?;
     let five = bank.num(5)?;
     let history = History::ground(&mut bank)?;
-    let mut work = Work::new(bank, Log::new(rt.alloc()), 1000);
+    let mut work = work_over(bank, &history);
     let sum = call(&rt, &mut work, &history, ground::PLUS, &[two, three])?;
     let want = call(&rt, &mut work, &history, ground::EQUAL, &[sum, five])?;
     line(&rt, &mut work, &history, Rule::Value(sum), &[want])
@@ -188,7 +198,7 @@ fn a_call_without_a_row_has_no_value(rt: HostRuntime) -> Result<(), Fail> {
     let two = bank.num(2)?;
     let greatest = bank.num(u128::MAX)?;
     let history = History::ground(&mut bank)?;
-    let mut work = Work::new(bank, Log::new(rt.alloc()), 1000);
+    let mut work = work_over(bank, &history);
     let open = call(&rt, &mut work, &history, ground::PLUS, &[variable, two])?;
     let passing = call(&rt, &mut work, &history, ground::PLUS, &[greatest, two])?;
     let pair = call(&rt, &mut work, &history, ground::CONS, &[two, two])?;

@@ -1,5 +1,5 @@
 -- The search for an axiom or lemma of which a goal is an instance.
-use Rattle.std.proofs.Common.{◌≡◌, ℕ, ◌+◌, ◌<◌, ◌≤◌, Bool, true, false, Option, Some, None, List, [], ◌∷◌, length, get_or, take, map, refl, sym, ap, ◌∙◌, subst}
+use Rattle.std.proofs.Common.{◌≡◌, ℕ, ◌+◌, ◌<◌, ◌≤◌, Bool, true, false, Option, Some, List, [], ◌∷◌, length, get_or, take, map, refl, sym, ap, ◌∙◌, subst}
 use Rattle.std.specs.Prelude.{All, IfSome, bytes_eq}
 use Rattle.std.proofs.lemmas.List.{take_all, take_more}
 use Rattle.nq_logic.specs.Terms.{Name, Term, Substitution, substituted}

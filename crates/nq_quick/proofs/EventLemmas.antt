@@ -1,16 +1,15 @@
 -- The lines of an axiom or lemma and of its instances.
-use Rattle.std.proofs.Common.{◌≡◌, ℕ, zero, suc, ◌+◌, ◌<◌, ◌≤◌, Bool, true, false, not, ◌&&◌, Option, Some, List, [], ◌∷◌, ◌++◌, length, get_or, take, map, refl, sym, ap, ap₂, ◌∙◌, subst, inl, inr}
+use Rattle.std.proofs.Common.{◌≡◌, ℕ, zero, suc, ◌+◌, ◌<◌, Bool, true, false, not, ◌&&◌, Some, List, [], ◌∷◌, ◌++◌, length, get_or, take, map, refl, sym, ap, ap₂, ◌∙◌, subst, inl, inr}
 use Rattle.std.specs.Prelude.{All, IsTrue, bytes_eq, if◌then◌else◌}
 use Rattle.std.proofs.lemmas.List.{take_more, map_push}
 use Rattle.nq_logic.specs.Terms.{Name, Symbol, Term, Variable, Function, Applied, Substitution, IsAmong, Each, Takes, value_at, substituted}
-use Rattle.nq_logic.specs.Histories.{History}
 use Rattle.nq_logic.specs.Ground.{symbols_of}
 use Rattle.nq_logic.specs.Names.{has_name}
 use Rattle.nq_logic.specs.Numerals.{number_of}
 use Rattle.nq_logic.specs.Admissible.{AreDistinct}
 use Rattle.nq_logic.proofs.Lists.{each_among}
 use Rattle.nq_logic.proofs.Tests.{names_found_law}
-use Rattle.nq_proof.specs.Clauses.{Clause, distinct}
+use Rattle.nq_proof.specs.Clauses.{distinct}
 use Rattle.nq_proof.specs.Rules.{event_term, are_distinct, is_substitution, given, when, pair_terms}
 use Rattle.nq_bank.specs.declared.node.Sym.{Sym}
 use Rattle.nq_bank.specs.declared.node.TermId.{TermId}
@@ -36,7 +35,7 @@ use Rattle.nq_history.proofs.HistoryLemmas.{events_at-grown}
 use Rattle.nq_kernel.specs.declared.rule.Rule.TheVariants.{EventTerm, Instance}
 use Rattle.nq_kernel.specs.declared.work.Work.{Work}
 use Rattle.nq_kernel.specs.Growing.{LineHolds}
-use Rattle.nq_kernel.specs.Meaning.{clause_at, conclusion_at}
+use Rattle.nq_kernel.specs.Meaning.{conclusion_at}
 use Rattle.nq_kernel.specs.Over.{IsVariable, VariablesAre, IsTermOf, TermIsIn, RuleIsIn}
 use Rattle.nq_kernel.specs.EventTerms.{HasSpelledTerms}
 use Rattle.nq_quick.specs.declared.earlier.Earlier.{Earlier}

@@ -1,5 +1,5 @@
 -- What the first pass answers, as the answer of a prover.
-use Rattle.std.proofs.Common.{◌≡◌, Bool, true, ◌&&◌, ◌||◌, false, Option, Some, List, [], ◌∷◌, refl, ap, ap₂, ◌∙◌, inl, inr}
+use Rattle.std.proofs.Common.{◌≡◌, true, ◌&&◌, ◌||◌, false, Option, [], ◌∷◌, refl, ap, ap₂, ◌∙◌, inl, inr}
 use Rattle.nq_logic.specs.Terms.{Term, IsAmong}
 use Rattle.nq_proof.specs.Clauses.{Clause, has_term, is_within}
 use Rattle.nq_proof.specs.Rules.{has_only}

@@ -8,6 +8,7 @@ use Rattle.nq_bank.specs.declared.node.TermId.{TermId}
 use Rattle.nq_bank.specs.Content.{Content, Grows, Names, NamesText, Gives, Stands, IsIdOf, term_at, terms_at}
 use Rattle.nq_bank.proofs.Growth.{Grows-refl, IsNamed-grown, text_at-grown, term_at-grown}
 use Rattle.nq_bank.proofs.Standing.{id_grown, All-push}
+use Rattle.nq_steps.specs.NewNames.{AddsSymbols}
 use Rattle.nq_history.specs.declared.entry.Entry.{Entry}
 use Rattle.nq_kernel.specs.declared.work.Work.{Work}
 use Rattle.nq_kernel.specs.Growing.{WorkStands}
@@ -32,8 +33,8 @@ gives_grow old new (Ok t) term h k = h.grows
 gives_grow old new (Err e) term h k = subst (Grows old) (sym k) (Grows-refl old)
 
 -- work of which only the bank grew
-pub bank_uncounted : (history : List Entry) (old : Work) (bank : Content) → WorkStands history old → Grows old.bank bank → GrowsUncounted history old (record old { bank = bank })
-bank_uncounted history old bank stands grows = record { grows = bank_grows history old bank old.counter stands grows (record { used = omega arith; limit = refl }); uncounted = refl }
+pub bank_uncounted : (history : List Entry) (old : Work) (bank : Content) → WorkStands history old → Grows old.bank bank → AddsSymbols old.bank bank → GrowsUncounted history old (record old { bank = bank })
+bank_uncounted history old bank stands grows symbols = record { grows = bank_grows history old bank old.counter stands grows symbols (record { used = omega arith; limit = refl }); uncounted = refl }
 
 pub pattern_grown : (old new : Content) (c : Connective) (pattern : Pattern) → Grows old new → IsPattern old c pattern → IsPattern new c pattern
 pattern_grown old new c pattern h k = record { left = id_grown old new pattern.left _ h k.left; right = id_grown old new pattern.right _ h k.right; whole = id_grown old new pattern.whole _ h k.whole }

@@ -5,7 +5,7 @@ use Rattle.nq_logic.specs.Histories.{History}
 use Rattle.nq_proof.specs.Rules.{event_term}
 use Rattle.nq_bank.specs.declared.node.Sym.{Sym}
 use Rattle.nq_bank.specs.declared.node.TermId.{TermId}
-use Rattle.nq_bank.specs.Content.{Content, Stands, IsNamed, Grows, text_at, term_at}
+use Rattle.nq_bank.specs.Content.{Content, Stands, IsNamed, text_at, term_at}
 use Rattle.nq_clause.specs.declared.substitution.Pair.{Pair}
 use Rattle.nq_clause.specs.Substitution.{substitution_at, PairStands}
 use Rattle.nq_clause.specs.Binding.{bindings_at, BindingStands, BindsOnce, BindsOnly}

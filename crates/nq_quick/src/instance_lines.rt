@@ -44,6 +44,7 @@ fn pairs_of(bank: &mut Bank, bindings: &[Binding]) -> Result<Vec<Pair>, AllocErr
     ensures pairs { IfOk result (λ pairs. substitution_at bank.new pairs.items ≡ bindings_at bank.old bindings.now) }
     ensures stand { IfOk result (λ pairs. All (PairStands bank.new) pairs.items) }
     ensures grows { Grows bank.old bank.new }
+    ensures names { bank.new.names ≡ bank.old.names }
 {
     let mut pairs = Vec::new(bank.alloc());
     for b in bindings {
@@ -61,6 +62,7 @@ fn id_of_bound(bank: &mut Bank, b: Bound) -> Result<TermId, AllocError>
     requires { BoundStands bank.old b }
     ensures term { IfOk result (λ t. IsIdOf bank.new t (bound_at bank.old b)) }
     ensures grows { Grows bank.old bank.new }
+    ensures names { bank.new.names ≡ bank.old.names }
 {
     match b {
         Bound::Term(t) => Ok(t),

@@ -1,8 +1,9 @@
 //! Lines that open a connective over the variables P and Q.
-ghost use Rattle.std.specs.Prelude.{◌≡◌, ◌∷◌, [], IfOk};
+ghost use Rattle.std.specs.Prelude.{◌≡◌, ◌∷◌, [], IfOk, IsTrue};
 ghost use Rattle.nq_logic.specs.Terms.{Variable};
 ghost use Rattle.nq_logic.specs.Words.{not_term, equal_term};
 ghost use Rattle.nq_logic.specs.Ground.{p_term, q_term};
+ghost use Rattle.nq_logtext.specs.Symbols.{is_symbol};
 ghost use Rattle.nq_bank.specs.Content.{NamesText, IsIdOf, Stands};
 ghost use Rattle.nq_proof.specs.Clauses.{distinct};
 ghost use Rattle.nq_proof.specs.Rows.{opening};
@@ -53,9 +54,10 @@ pub struct Opening {
     pub body: TermId,
 }
 
-/// The symbol of a text.
+/// The symbol of a text in upper case.
 pub fn symbol(work: &mut Work, history: &History, text: &[u8]) -> Result<Sym, AllocError>
-    requires { WorkStands history.now work.old }
+    requires stands { WorkStands history.now work.old }
+    requires symbol { IsTrue (is_symbol text.now) }
     ensures name { IfOk result (λ s. NamesText work.new.bank s text.now) }
     ensures grows { GrowsUncounted history.now work.old work.new }
 {
@@ -64,7 +66,8 @@ pub fn symbol(work: &mut Work, history: &History, text: &[u8]) -> Result<Sym, Al
 
 /// The variable of a text.
 fn variable(work: &mut Work, history: &History, text: &[u8]) -> Result<TermId, AllocError>
-    requires { WorkStands history.now work.old }
+    requires stands { WorkStands history.now work.old }
+    requires symbol { IsTrue (is_symbol text.now) }
     ensures term { IfOk result (λ t. IsIdOf work.new.bank t (Variable text.now)) }
     ensures grows { GrowsUncounted history.now work.old work.new }
 {

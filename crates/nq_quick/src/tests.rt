@@ -7,6 +7,7 @@ ghost use Rattle.nq_kernel.specs.Over.{IsVariable, TermIsIn};
 ghost use Rattle.nq_kernel.specs.EventTerms.{HasSpelledTerms};
 
 mod instances;
+mod prover;
 
 use super::*;
 use nq_bank::{Bank, Node, Sym, TermId, ground, ground_name};

@@ -26,14 +26,15 @@ use Rattle.nq_comment.specs.Reports.{Answer, Accepted}
 use Rattle.nq_comment.specs.ReportViews.{answer_of}
 use Rattle.nq_comment.specs.declared.answer.FormAnswer.{FormAnswer}
 use Rattle.nq_comment.specs.declared.answer.FormAnswer.TheVariants as answers
-use Rattle.nq_answers.specs.Claims.{claims_of, event_claims}
-use Rattle.nq_answers.specs.Steps.{AnswersUnless, IsOutcome, after_event, is_taken, refusal_answer, refused, untaken}
-use Rattle.nq_answers.proofs.Deriving.{TakesNothing, no_refusal, untaken_nothing}
+use Rattle.nq_answers.specs.Claims.{event_claims}
+use Rattle.nq_answers.specs.Steps.{IsOutcome, refusal_answer, refused, untaken}
+use Rattle.nq_answers.proofs.Deriving.{no_refusal}
 use Rattle.nq_run.specs.declared.session.Session.{Session}
 use Rattle.nq_run.specs.declared.session.Taken.{Taken}
 use Rattle.nq_run.specs.HistoryView.{history_of}
 use Rattle.nq_run.specs.Outcome.{AreBlocks}
-use Rattle.nq_run.specs.Sessions.{IsAdded, IsUntaken, TakesEvent}
+use Rattle.nq_run.specs.Sessions.{IsAdded, TakesEvent}
+use Rattle.nq_run.proofs.TakingLemmas.{accepted_as}
 
 -- ---- what an answer tells of a session's event
 
@@ -43,55 +44,19 @@ some_told o answer why told some = sym (ap (option_map answer_of) some) ∙ told
 pub none_told : (o : Option FormAnswer) (why : Option Answer) → option_map answer_of o ≡ why → o ≡ None → why ≡ None
 none_told o why told none = sym told ∙ ap (option_map answer_of) none
 
--- ---- events that something keeps from being taken
-
-takes_nothing : (answer : Answer) (o : Option Answer) → Some answer ≡ o → TakesNothing o → is_taken answer ≡ false
-takes_nothing answer None e nothing = absurd cc
-takes_nothing answer (Some a) e nothing = let same : answer ≡ a = cc in ap is_taken same ∙ nothing
-
-kept_by : (b : Bool) (h k : History) → b ≡ false → (if b then k else h) ≡ h
-kept_by true h k e = absurd cc
-kept_by false h k e = refl
-
-none_by : (b : Bool) (claims : List Claim) → b ≡ false → (if b then claims else []) ≡ []
-none_by true claims e = absurd cc
-none_by false claims e = refl
-
--- the session is as it was
-pub hindered : (old : Session) (form : Form) (event : model.Event) (logging : Bool) (answer : Answer) (r : Taken) → Some answer ≡ untaken (history_of old) form event → IsUntaken old answer r
-    → TakesEvent (history_of old) form event logging r
-hindered old form event logging answer r why is =
-    let h : History = history_of old in
-    let nothing : is_taken (answer_of r.answer) ≡ false = ap is_taken is.answer_is ∙ takes_nothing answer (untaken h form event) why (untaken_nothing h form event) in
-    record {
-      answered = subst (λ (o : Option Answer). AnswersUnless o h form event (answer_of r.answer)) why is.answer_is;
-      after_is = is.same ∙ sym (kept_by (is_taken (answer_of r.answer)) h (history_after h event None) nothing);
-      stands = is.stands;
-      written = λ on. subst (λ (cs : List Claim). AreBlocks h cs r.block) (sym (none_by (is_taken (answer_of r.answer)) (event_claims event) nothing)) is.block_is;
-    }
-
 -- ---- events that are accepted
 
 -- nothing keeps the event from being taken, and its entry stands at the end
 module _ (old : Session) (form : Form) (event : model.Event) (logging : Bool) (entry : Entry) (claim : Claim) (block : List ℕ) (none : untaken (history_of old) form event ≡ None)
     (outcome : IsOutcome (history_of old) form event Accepted) (later : history_after (history_of old) event None ≡ history_of old ++ event_at old.bank entry ∷ [])
     (claims : event_claims event ≡ claim ∷ []) (text : logging ≡ true → IsBlock (history_of old) claim block) where
-  accepted_as : (r : Taken) → IsAdded old entry r.session → r.answer ≡ answers.Accepted → r.block ≡ block → TakesEvent (history_of old) form event logging r
-  accepted_as r added told written =
-      let h : History = history_of old in
-      let answer : answer_of r.answer ≡ Accepted = ap answer_of told in
-      record {
-        answered = subst (λ (o : Option Answer). AnswersUnless o h form event (answer_of r.answer)) (sym none) (subst (IsOutcome h form event) (sym answer) outcome);
-        after_is = added.after ∙ sym later ∙ sym (ap (after_event h event) answer);
-        stands = added.stands;
-        written = λ on.
-            subst (λ (a : Answer). AreBlocks h (claims_of event a) r.block) (sym answer)
-            (subst (λ (cs : List Claim). AreBlocks h cs r.block) (sym claims) (subst (IsBlock h claim) (sym written) (text on)));
-      }
+  blocks : (text_of : List ℕ) → text_of ≡ block → logging ≡ true → AreBlocks (history_of old) (event_claims event) text_of
+  blocks text_of written on =
+      subst (λ (cs : List Claim). AreBlocks (history_of old) cs text_of) (sym claims) (subst (IsBlock (history_of old) claim) (sym written) (text on))
 
   pub accepted : {E : Type 0} (r : Result Taken E) → IfOk r (λ t. IsAdded old entry t.session) → IfOk r (λ t. t.answer ≡ answers.Accepted) → IfOk r (λ t. t.block ≡ block)
       → IfOk r (TakesEvent (history_of old) form event logging)
-  accepted (Ok t) added told written = accepted_as t added told written
+  accepted (Ok t) added told written = accepted_as old form event entry logging t added told none outcome later (blocks t.block written)
   accepted (Err e) added told written = tt
 
 -- the name of an event that may be added is free

@@ -1,5 +1,5 @@
 -- One form more in a run.
-use Rattle.std.proofs.Common.{◌≡◌, ◌+◌, ◌^◌, ◌≤◌, ℕ, suc, Bool, true, false, List, [], ◌∷◌, ◌++◌, length, take, drop, Option, ap, sym, subst, ◌∙◌, refl, inl, inr, arith, append_assoc, append-nil, length-append}
+use Rattle.std.proofs.Common.{◌≡◌, ◌+◌, ◌^◌, ◌≤◌, ◌<◌, ℕ, suc, Bool, true, false, List, [], ◌∷◌, ◌++◌, length, take, drop, Option, ap, sym, subst, ◌∙◌, refl, inl, inr, arith, append_assoc, append-nil, length-append}
 use Rattle.std.specs.Prelude.{Result, Ok, Err, OnErr, OnOk, IfOk, Some, None, IfSome, ⊤}
 use Rattle.std.specs.Io.KnownBytes.{Appends, Keeps}
 use Rattle.std.proofs.KnownBytes.{Appends-kept, Appends-nil, Appends-trans}
@@ -205,6 +205,14 @@ Ran-stopped logging left earlier form old t count a b c ran before later (inr wr
           (log_after logging earlier ran.reports old new form wrote.report ran.log wrote.block ran.runs ran.log_is wrote.answered);
     }
 
+pub if_some_weaker : {A : Type 0} (o : Option A) (P Q : A → Type 0) → ((a : A) → P a → Q a) → IfSome o P → IfSome o Q
+if_some_weaker None P Q each holds = tt
+if_some_weaker (Some a) P Q each holds = each a holds
+
+if_both : {A : Type 0} (o : Option A) (P Q R : A → Type 0) → ((a : A) → P a → Q a → R a) → IfSome o P → IfSome o Q → IfSome o R
+if_both None P Q R each p q = tt
+if_both (Some a) P Q R each p q = each a p q
+
 -- the block of a form would fill the log
 pub Ran-full : (left : Option (List ℕ)) (earlier : Forms) (form : Form) (old : History) (t : Totals) (count : ℕ) (a b c : outcome.Held)
     → Ran true earlier old t count a b → IfSome left (λ text. Begun text (push earlier form)) → FilledLog count (t.forms + 1) form old b c → Full left a c
@@ -219,9 +227,12 @@ Ran-full left earlier form old t count a b c ran later filled =
       reported = reported (push earlier form) (ran.reports ++ filled.report ∷ []) new runs;
       text = subst (Appends a.comment c.comment) (sym (lines_of-turn ran.reports filled.report t.forms (forms_counted ran.reports t ran.counted)))
           (Appends-trans a.comment b.comment c.comment _ _ ran.text filled.text);
-      written = ran.log;
+      log = ran.log;
       next = filled.block;
       logs = logs_same true a.log b.log c.log ran.log ran.logs filled.log;
+      follows = if_some_weaker left _ _ (λ text opened. (without_classes new, inl opened))
+          (if_spelled left (push earlier form) (IsOpenLog (ran.log ++ filled.block) (claims_from [] (push earlier form) (ran.reports ++ filled.report ∷ [])) (without_classes new)) later
+          (λ spelled. (log_after true earlier ran.reports old new form filled.report ran.log filled.block ran.runs ran.log_is filled.answered refl spelled).0));
       full = let whole : length (ran.log ++ filled.block) ≡ length ran.log + length filled.block = length-append ran.log filled.block in
           omega (arith, counted, whole, filled.full);
     }
@@ -243,26 +254,41 @@ own_ending None = tt
 own_ending (Some f) = tt
 
 finished_log : (logging : Bool) (ending : Ending) (forms : Forms) (reports : List Report) (history : History) (a c : Option (List ℕ)) (log : List ℕ)
-    → Logs logging a c (log ++ last_text ending) → (logging ≡ true → IsLogOf forms reports history log) → Runs [] forms reports history → IsEnded ending → AreSpelled forms
-    → FinishedLog logging ending forms reports a c
-finished_log logging done forms reports history a c log logs is runs ended spelled =
-    record { log = log ++ end_text; logs = logs; log_is = λ w. right_log forms reports history (without_classes history) log runs (is w spelled).0 }
-finished_log logging (fault code offset) forms reports history a c log logs is runs ended spelled =
-    record { log = log; logs = subst (Logs logging a c) (append-nil log) logs; log_is = λ w. (without_classes history, (is w spelled).0) }
-finished_log logging too_long forms reports history a c log logs is runs ended spelled = absurd ended
+    → Logs logging a c (log ++ last_text ending) → (logging ≡ true → length (log ++ last_text ending) < 2 ^ 62) → (logging ≡ true → IsLogOf forms reports history log) → Runs [] forms reports history
+    → IsEnded ending → AreSpelled forms → FinishedLog logging ending forms reports a c
+finished_log logging done forms reports history a c log logs small is runs ended spelled =
+    record { log = log ++ end_text; logs = logs; small = small; log_is = λ w. right_log forms reports history (without_classes history) log runs (is w spelled).0 }
+finished_log logging (fault code offset) forms reports history a c log logs small is runs ended spelled =
+    record {
+      log = log;
+      logs = subst (Logs logging a c) (append-nil log) logs;
+      small = λ w. subst (λ (t : List ℕ). length t < 2 ^ 62) (append-nil log) (small w);
+      log_is = λ w. (without_classes history, (is w spelled).0);
+    }
+finished_log logging too_long forms reports history a c log logs small is runs ended spelled = absurd ended
+
+-- the bytes of the log and of its last line
+ended_small : (logging : Bool) (log last : List ℕ) (count : ℕ) → (logging ≡ true → count ≡ length log) → (logging ≡ true → count + length last < 2 ^ 62) → logging ≡ true → length (log ++ last) < 2 ^ 62
+ended_small logging log last count counted small w =
+    let same = counted w in
+    let below = small w in
+    let whole : length (log ++ last) ≡ length log + length last = length-append log last in
+    omega (arith, same, below, whole)
 
 pub Ran-finished : (logging : Bool) (left : Option (List ℕ)) (spelling : Option SyntaxFault) (forms : Forms) (history : History) (t : Totals) (count : ℕ) (a b c : outcome.Held)
     (ran : Ran logging forms history t count a b)
     → IfSome left (λ text. Reads 500 (2 ^ 25) text forms (ending_of spelling)) → IfSome left (λ text. Begun text forms)
-    → Appends b.comment c.comment (closing_lines (ending_of spelling) t) → Logs logging b.log c.log (last_text (ending_of spelling)) → Finished logging left (ending_of spelling) ran.reports a c
-Ran-finished logging left spelling forms history t count a b c ran reads begun closes last = record {
+    → Appends b.comment c.comment (closing_lines (ending_of spelling) t) → Logs logging b.log c.log (last_text (ending_of spelling))
+    → (logging ≡ true → count + length (last_text (ending_of spelling)) < 2 ^ 62) → Finished logging left (ending_of spelling) ran.reports a c
+Ran-finished logging left spelling forms history t count a b c ran reads begun closes last small = record {
   forms = forms;
   reads = reads;
   reported = reported forms ran.reports history ran.runs;
   text = Appends-trans a.comment b.comment c.comment _ _ ran.text (subst (λ (u : Totals). Appends b.comment c.comment (closing_lines (ending_of spelling) u)) ran.counted closes);
   log = if_spelled left forms (FinishedLog logging (ending_of spelling) forms ran.reports a.log c.log) begun
       (finished_log logging (ending_of spelling) forms ran.reports history a.log c.log ran.log
-      (logs_after logging a.log b.log c.log ran.log (last_text (ending_of spelling)) ran.logs last) ran.log_is ran.runs (own_ending spelling));
+      (logs_after logging a.log b.log c.log ran.log (last_text (ending_of spelling)) ran.logs last)
+      (ended_small logging ran.log (last_text (ending_of spelling)) count ran.log_count small) ran.log_is ran.runs (own_ending spelling));
   no_log = no_logs logging a.log c.log (ran.log ++ last_text (ending_of spelling))
       (logs_after logging a.log b.log c.log ran.log (last_text (ending_of spelling)) ran.logs last);
 }
@@ -310,29 +336,29 @@ Ran-interrupted logging left forms history t count a b ran begins = inl (record 
 })
 
 -- the last line would fill the log
-pub Ran-filled : (left : Option (List ℕ)) (forms : Forms) (history : History) (t : Totals) (count : ℕ) (a b c : outcome.Held) (last : List ℕ)
-    → Ran true forms history t count a b → IfSome left (λ text. Begun text forms) → 2 ^ 62 ≤ count + length last → Keeps b.comment c.comment → c.log ≡ b.log → Full left a c
-Ran-filled left forms history t count a b c last ran begins full kept same =
+pub Ran-filled : (left : Option (List ℕ)) (spelling : Option SyntaxFault) (forms : Forms) (history : History) (t : Totals) (count : ℕ) (a b c : outcome.Held)
+    → Ran true forms history t count a b → IfSome left (λ text. Reads 500 (2 ^ 25) text forms (ending_of spelling)) → IfSome left (λ text. Begun text forms)
+    → count < 2 ^ 62 → 2 ^ 62 ≤ count + length (last_text (ending_of spelling)) → Keeps b.comment c.comment → c.log ≡ b.log → Full left a c
+Ran-filled left (Some f) forms history t count a b c ran reads begun small full kept same = absurd (omega (arith, small, full))
+Ran-filled left None forms history t count a b c ran reads begun small full kept same =
     let counted = ran.log_count refl in
     record {
       forms = forms;
-      begins = begins;
+      begins = begun;
       reports = ran.reports;
       reported = reported forms ran.reports history ran.runs;
       text = Appends-kept a.comment b.comment c.comment _ ran.text kept;
-      written = ran.log;
-      next = last;
+      log = ran.log;
+      next = end_text;
       logs = logs_same true a.log b.log c.log ran.log ran.logs same;
-      full = let whole : length (ran.log ++ last) ≡ length ran.log + length last = length-append ran.log last in omega (arith, counted, whole, full);
+      follows = if_both left _ _ _ (λ text read opened. (without_classes history, inr (opened, refl, read))) reads
+          (if_spelled left forms (IsOpenLog ran.log (claims_from [] forms ran.reports) (without_classes history)) begun (λ spelled. (ran.log_is refl spelled).0));
+      full = let whole : length (ran.log ++ end_text) ≡ length ran.log + length end_text = length-append ran.log end_text in omega (arith, counted, whole, full);
     }
 
-pub if_some_weaker : {A : Type 0} (o : Option A) (P Q : A → Type 0) → ((a : A) → P a → Q a) → IfSome o P → IfSome o Q
-if_some_weaker None P Q each holds = tt
-if_some_weaker (Some a) P Q each holds = each a holds
-
-pub if_ok_on : {T E : Type 0} (r : Result T E) (P Q : T → Type 0) (A B : Type 0) → ((x : T) → P x → A → B → Q x) → IfOk r P → OnOk r A → OnOk r B → IfOk r Q
-if_ok_on (Ok x) P Q A B each p a b = each x p a b
-if_ok_on (Err e) P Q A B each p a b = tt
+pub if_ok_on : {T E : Type 0} (r : Result T E) (P Q : T → Type 0) (A B C : Type 0) → ((x : T) → P x → A → B → C → Q x) → IfOk r P → OnOk r A → OnOk r B → OnOk r C → IfOk r Q
+if_ok_on (Ok x) P Q A B C each p a b c = each x p a b c
+if_ok_on (Err e) P Q A B C each p a b c = tt
 
 pub on_err_weaker : {T E : Type 0} (r : Result T E) (A B C : Type 0) → (A → B → C) → OnErr r A → OnErr r B → OnErr r C
 on_err_weaker (Ok x) A B C each a b = tt

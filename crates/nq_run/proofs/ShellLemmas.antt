@@ -7,7 +7,7 @@ use Rattle.std.proofs.lemmas.List.Elements.{All-filter}
 use Rattle.nq_logtext.specs.Symbols.{is_symbol}
 use Rattle.nq_logic.specs.Terms.{Each, IsAmong, Name}
 use Rattle.nq_logic.specs.Histories as logic
-use Rattle.nq_logic.specs.Histories.{History, accessor_symbols, base_symbols, events_shells}
+use Rattle.nq_logic.specs.Histories.{History, accessor_symbols, base_symbols}
 use Rattle.nq_logic.specs.Names.{event_names, has_name, is_in_use, symbol_names}
 use Rattle.nq_logic.specs.ShellPrinciple.{ShellRefusal, shell_names, shell_refusal, shells_of}
 use Rattle.nq_logic.proofs.Tests.{names_found_law}
@@ -20,9 +20,8 @@ use Rattle.nq_bank.specs.Shells.{BaseStands, PartStands, ShellStands, parts_at, 
 use Rattle.nq_bank.proofs.NodesLemmas.{All-head, All-tail}
 use Rattle.nq_history.specs.declared.entry.Entry.{Entry}
 use Rattle.nq_history.specs.declared.entry.EntryKind.TheVariants as kind
-use Rattle.nq_history.specs.Events.{all_events_at, events_at, EntryStands, HistoryStands}
+use Rattle.nq_history.specs.Events.{events_at, EntryStands}
 use Rattle.nq_history.proofs.Lists.{All-none, All-cons}
-use Rattle.nq_kernel.proofs.EntryLemmas.{ground_first}
 use Rattle.nq_shell.specs.Admission.{AreUsed}
 use Rattle.nq_form.specs.Form.{Form}
 use Rattle.nq_log.specs.States.{Adds}
@@ -185,20 +184,14 @@ module _ (h : History) (s : logic.Shell) where
   pub free_constructor : own_refusal h (model.AddShell s) ≡ None → IsSpelledShell s → IsFree h s.constructor
   free_constructor e spelled = record { symbol = spelled.constructor_spelled; unused = (allowed e).accepted.unused.0; room = room e }
 
--- the shells of the entries are those of the history
-shells_same : (bank : Content) (history : List Entry) → HistoryStands bank history → events_shells (all_events_at bank history) ≡ shells_of (events_at bank history)
-shells_same bank history stands = ap events_shells (ground_first bank history stands)
-
--- what the test of a shell tells, over the shells of the entries and the names in use, is what the Shell Principle tells in the history
-pub principle_told : (bank : Content) (history entries : List Entry) (s : logic.Shell) (shells listed : List Shell) (used named : List Sym) (told : Option ShellRefusal)
-    → HistoryStands bank history → entries ≡ history → listed ≡ shells → shells_at bank shells ≡ events_shells (all_events_at bank entries) → named ≡ used
+-- what the test of a shell tells, over the shells of the history and the names in use, is what the Shell Principle tells in the history
+pub principle_told : (bank : Content) (history : List Entry) (s : logic.Shell) (shells : List Shell) (used named : List Sym) (told : Option ShellRefusal)
+    → shells_at bank shells ≡ shells_of (events_at bank history) → named ≡ used
     → AreUsed bank used (λ n. is_in_use n (events_at bank history)) s
-    → ((in_use : List ℕ → Bool) → AreUsed bank named in_use s → told ≡ shell_refusal in_use (shells_at bank listed) s) → told ≡ principle (events_at bank history) s
-principle_told bank history entries s shells listed used named told stands whole same are names in_use tells =
+    → ((in_use : List ℕ → Bool) → AreUsed bank named in_use s → told ≡ shell_refusal in_use (shells_at bank shells) s) → told ≡ principle (events_at bank history) s
+principle_told bank history s shells used named told are names in_use tells =
     let p : List ℕ → Bool = λ n. is_in_use n (events_at bank history) in
-    let earlier : shells_at bank listed ≡ shells_of (events_at bank history) =
-    ap (shells_at bank) same ∙ are ∙ ap (λ (es : List Entry). events_shells (all_events_at bank es)) whole ∙ shells_same bank history stands in
-    tells p (subst (λ (ns : List Sym). AreUsed bank ns p s) (sym names) in_use) ∙ ap (λ (ss : List logic.Shell). shell_refusal p ss s) earlier
+    tells p (subst (λ (ns : List Sym). AreUsed bank ns p s) (sym names) in_use) ∙ ap (λ (ss : List logic.Shell). shell_refusal p ss s) are
 
 -- ---- the session with a shell
 

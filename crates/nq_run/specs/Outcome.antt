@@ -1,5 +1,5 @@
 -- What the two sinks of a run have gained when it ends: the commentary, and the log where it is written.
-use Rattle.std.specs.Prelude.{◌≡◌, ◌⊎◌, ◌+◌, ◌^◌, ◌≤◌, ◌==◌, ℕ, Bool, true, false, List, [], ◌∷◌, ◌++◌, length, Option, None, Some, IfSome, IsTrue, if◌then◌else◌}
+use Rattle.std.specs.Prelude.{◌≡◌, ◌⊎◌, ◌+◌, ◌^◌, ◌≤◌, ◌<◌, ◌==◌, ℕ, Bool, true, false, List, [], ◌∷◌, ◌++◌, length, Option, None, Some, IfSome, IsTrue, if◌then◌else◌}
 use Rattle.std.specs.Io.KnownBytes.{Appends, Keeps}
 use Rattle.nq_logic.specs.Histories.{History}
 use Rattle.nq_logic.specs.Classes.{without_classes}
@@ -145,10 +145,11 @@ IsFinishedLog done forms reports log = IsRightLog (claims_from [] forms reports)
 IsFinishedLog (fault code offset) forms reports log = (history : History) × IsOpenLog log (claims_from [] forms reports) history
 IsFinishedLog too_long forms reports log = ⊥
 
--- the log gained such a text; where no log is written it is as it was
+-- the log gained such a text, of less than 2^62 bytes; where no log is written it is as it was
 pub record FinishedLog (logging : Bool) (ending : Ending) (forms : Forms) (reports : List Report) (held now : Option (List ℕ)) : Type 0 where
   pub log : List ℕ
   pub logs : Logs logging held now log
+  pub small : logging ≡ true → length log < 2 ^ 62
   pub log_is : logging ≡ true → IsFinishedLog ending forms reports log
 
 -- the log gained a front part of a log with these claims, which has no last line
@@ -184,17 +185,25 @@ pub record Halted (logging : Bool) (start left : Option (List ℕ)) (why : ReadF
   pub text : Appends held.comment now.comment (report_lines reports)
   pub log : IfSome start (λ text. PartialLog logging forms reports held.log now.log)
 
--- the log is full: with the next block, or with its last line, it would have 2^62 bytes
+-- What would follow on the log of these forms: the block of the last of them, or, where they are the whole text, the last line.
+abbrev pub Follows : List ℕ → Forms → List Report → List ℕ → List ℕ → Type 0
+Follows text forms reports log next = (history : History)
+    × (IsOpenLog (log ++ next) (claims_from [] forms reports) history
+    ⊎ (IsOpenLog log (claims_from [] forms reports) history × (next ≡ end_text) × Reads 500 (2 ^ 25) text forms done))
+
+-- The log is full: with what would follow it would have 2^62 bytes or more. Nothing of that was written, but the lines of all
+-- reports so far were.
 pub record Full (left : Option (List ℕ)) (held now : Held) : Type 0 where
   pub forms : Forms
   pub begins : IfSome left (λ text. Begun text forms)
   pub reports : List Report
   pub reported : Reported forms reports
   pub text : Appends held.comment now.comment (report_lines reports)
-  pub written : List ℕ
+  pub log : List ℕ
   pub next : List ℕ
-  pub logs : Appends held.log now.log written
-  pub full : 2 ^ 62 ≤ length (written ++ next)
+  pub logs : Appends held.log now.log log
+  pub follows : IfSome left (λ text. Follows text forms reports log next)
+  pub full : 2 ^ 62 ≤ length (log ++ next)
 
 -- some forms were run, and the sinks gained a front part of their lines and of their log
 pub record Interrupted (logging : Bool) (left : Option (List ℕ)) (held now : Held) : Type 0 where

@@ -64,7 +64,9 @@ impl RunFault {
 /// A run that came to the end of its file, or to a fault of its spelling.
 #[derive(Clone, Copy)]
 pub struct Ended {
+    /// The numbers of the summary line.
     pub counts: Counts,
+    /// What is wrong with the spelling, where the run stopped for it.
     pub fault: Option<SyntaxFault>,
 }
 
@@ -349,6 +351,7 @@ fn finish<O: Sink, L: Sink>(
     ensures err { OnErr result (GrowsWithin (O.written comment.old) (O.written comment.new)
         (closing_lines (ending_of fault) (totals_in progress.counts))) }
     ensures log_err { OnErr result (LogsWithin progress.log.logging (L.written log.old) (L.written log.new) (last_text (ending_of fault))) }
+    ensures small { OnOk result (progress.log.logging ≡ true → progress.log.count + length (last_text (ending_of fault)) < 2 ^ 62) }
     ensures full { result ≡ Err RunFault.TooLong → (progress.log.logging ≡ true) × (2 ^ 62 ≤ progress.log.count + length (last_text (ending_of fault)))
         × Keeps (O.written comment.old) (O.written comment.new) × (L.written log.new ≡ L.written log.old) }
     ensures write { result ≡ Err RunFault.Write → Rose (O.faults comment.old) (O.faults comment.new) ⊎ Rose (L.faults log.old) (L.faults log.new) }

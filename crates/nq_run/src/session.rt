@@ -72,7 +72,7 @@ impl Session {
     }
 
     /// Answers a form, and takes its event where it is accepted, proved or undone. With `logging` it gives the block of what the
-    /// event claims. What a form made in the bank is given back, but for what its entry holds.
+    /// event claims. What the form made in the bank is given back where its event is not taken.
     pub(crate) fn take<P: Prover>(
         self,
         alloc: Global,

@@ -27,7 +27,7 @@ use nq_bank::{Bank, Shell};
 use nq_block::Closing;
 use nq_comment::FormAnswer;
 use nq_history::{Entry, EntryKind, History};
-use nq_kernel::{Log, Prover, shells_among};
+use nq_kernel::{Log, Prover};
 use nq_logtext::Text;
 use nq_shell::admit_shell;
 use nq_spelling::events_are_spelled;
@@ -75,8 +75,7 @@ impl Session {
             ≡ refused (own_refusal (history_of self.now) (model.AddShell (shell_at self.now.bank shell.now)))) }
     {
         let used = used_names(&self.bank, &self.history, shell)?;
-        let shells = shells_among(&self.bank, self.history.entries())?;
-        match admit_shell(&self.bank, shells.as_slice(), used.as_slice(), shell) {
+        match admit_shell(&self.bank, self.history.shells(), used.as_slice(), shell) {
             Ok(()) => self.room_answer(alloc),
             Err(fault) => Ok(Some(shell_refused(alloc, &self.bank, fault)?)),
         }

@@ -12,6 +12,7 @@ use nq_bank::{Bank, Part, Shell};
 use nq_steps::Step;
 use std::alloc::AllocError;
 
+/// The row that a part of what the constructor made is the argument, where it meets the restriction.
 pub fn part_of_made(
     bank: &Bank,
     steps: &mut Vec<Step>,
@@ -38,6 +39,7 @@ pub fn part_of_made(
     }
 }
 
+/// The row that it is the default, where the argument does not meet the restriction.
 pub fn wrong_part_of_made(
     bank: &Bank,
     steps: &mut Vec<Step>,
@@ -64,6 +66,7 @@ pub fn wrong_part_of_made(
     }
 }
 
+/// The row that the part of an object of another kind is the default.
 pub fn part_of_other(
     bank: &Bank,
     steps: &mut Vec<Step>,
@@ -112,6 +115,7 @@ fn part_of_base_for(
     }
 }
 
+/// The row that the part of the base is the default.
 pub fn part_of_base(
     bank: &Bank,
     steps: &mut Vec<Step>,
@@ -135,6 +139,7 @@ pub fn part_of_base(
     }
 }
 
+/// The row that the constructor takes an argument that does not meet its restriction as the default.
 pub fn wrong_part(
     bank: &Bank,
     steps: &mut Vec<Step>,
@@ -161,6 +166,7 @@ pub fn wrong_part(
     }
 }
 
+/// The row that no object is of this kind and of that of an earlier shell.
 pub fn kinds_differ(
     bank: &Bank,
     steps: &mut Vec<Step>,

@@ -1,9 +1,10 @@
 -- Terms that are made step by step on a stack.
-use Rattle.std.specs.Prelude.{◌<◌, ℕ, zero, suc, List, [], ◌∷◌, reverse, take, drop, ◌⊎◌}
+use Rattle.std.specs.Prelude.{◌<◌, ℕ, zero, suc, Bool, IsTrue, List, [], ◌∷◌, reverse, take, drop, ◌⊎◌}
 use Rattle.nq_logic.specs.Terms.{Name as NameOf, Term, Variable as VariableOf, Function, Applied, call}
 use Rattle.nq_logic.specs.Words.{numeral}
 use Rattle.nq_logic.specs.Shells.{part_variable}
 use Rattle.nq_logic.specs.Sizes.{depth_of, depth_limit}
+use Rattle.nq_logtext.specs.Symbols.{is_between}
 use Rattle.nq_bank.specs.Content.{Content, IsNamed, Stands, term_at, text_at}
 use Rattle.nq_steps.specs.declared.steps.Leaf.{Leaf}
 use Rattle.nq_steps.specs.declared.steps.Leaf.TheVariants.{Letter, Name, Part, Number, Known}
@@ -34,9 +35,13 @@ steps_taken bank (step ∷ steps) ts = steps_taken bank steps (step_taken bank s
 abbrev pub stack_of : Content → List Step → List Term
 stack_of bank steps = steps_taken bank steps []
 
--- the names and terms of the leaf stand in the bank
+-- a letter in upper case
+abbrev pub is_letter : ℕ → Bool
+is_letter b = is_between 65 90 b
+
+-- the names and terms of the leaf stand in the bank, and its one letter is in upper case
 abbrev pub LeafStands : Content → Leaf → Type 0
-LeafStands bank (Letter b) = Unit {0}
+LeafStands bank (Letter b) = IsTrue (is_letter b)
 LeafStands bank (Name s) = IsNamed bank s
 LeafStands bank (Part k) = Unit {0}
 LeafStands bank (Number n) = Unit {0}

@@ -14,6 +14,6 @@ mod making;
 
 pub use making::take_steps;
 pub use steps::{
-    Leaf, Step, put_call, put_ground, put_joined, put_known, put_letter, put_name, put_number,
-    put_variable, put_whole,
+    Leaf, Step, put_call, put_ground, put_joined, put_known, put_name, put_number, put_variable,
+    put_whole,
 };

@@ -1,9 +1,11 @@
 //! Takes steps over a bank.
-ghost use Rattle.std.specs.Prelude.{◌≡◌, ◌≤◌, ◌-◌, ◌++◌, [], ◌∷◌, ℕ, reverse, length, take, drop, All, IfOk, OnOk, Err};
+ghost use Rattle.std.specs.Prelude.{◌≡◌, IsTrue, ◌≤◌, ◌-◌, ◌++◌, [], ◌∷◌, ℕ, reverse, length, take, drop, All, IfOk, OnOk, Err};
 ghost use Rattle.nq_logic.specs.Terms.{Variable};
 ghost use Rattle.nq_logic.specs.Words.{numeral};
 ghost use Rattle.nq_logic.specs.Shells.{digits_of, part_variable};
+ghost use Rattle.nq_logtext.specs.Symbols.{is_symbol};
 ghost use Rattle.nq_bank.specs.Content.{Grows, IsIdOf, IsNamed, Stands, terms_at, text_at};
+ghost use Rattle.nq_steps.specs.NewNames.{AddsSymbols};
 ghost use Rattle.nq_steps.specs.Steps.{leaf_term, stack_of, step_taken, HasDeep, LeafStands, StepStands};
 
 use crate::steps::{Leaf, Step};
@@ -25,8 +27,10 @@ fn put_digits(text: &mut Vec<u8>, n: u128) -> Result<(), AllocError>
 
 /// The id of the variable with this text.
 fn variable(bank: &mut Bank, text: &[u8]) -> Result<TermId, BankFault>
+    requires { IsTrue (is_symbol text.now) }
     ensures ok { IfOk result (λ t. IsIdOf bank.new t (Variable text.now)) }
     ensures grows { Grows bank.old bank.new }
+    ensures names { AddsSymbols bank.old bank.new }
     ensures not_deep { result ≡ Err BankFault.Deep → ⊥ }
 {
     let Ok(s) = bank.name(text) else {
@@ -40,7 +44,8 @@ fn variable(bank: &mut Bank, text: &[u8]) -> Result<TermId, BankFault>
 
 /// The text of the variable of a part.
 fn part_text(alloc: Global, place: u64) -> Result<Vec<u8>, AllocError>
-    ensures { IfOk result (λ text. Variable text.items ≡ part_variable place) }
+    ensures text { IfOk result (λ text. Variable text.items ≡ part_variable place) }
+    ensures symbol { IfOk result (λ text. IsTrue (is_symbol text.items)) }
 {
     let mut text = Vec::new(alloc);
     text.push(b'X')?;
@@ -52,6 +57,7 @@ fn part_text(alloc: Global, place: u64) -> Result<Vec<u8>, AllocError>
 fn variable_of_part(bank: &mut Bank, place: u64) -> Result<TermId, BankFault>
     ensures ok { IfOk result (λ t. IsIdOf bank.new t (part_variable place)) }
     ensures grows { Grows bank.old bank.new }
+    ensures names { AddsSymbols bank.old bank.new }
     ensures not_deep { result ≡ Err BankFault.Deep → ⊥ }
 {
     let alloc = bank.alloc();
@@ -66,6 +72,7 @@ fn named_variable(bank: &mut Bank, name: Sym) -> Result<TermId, BankFault>
     requires name { IsNamed bank.old name }
     ensures ok { IfOk result (λ t. IsIdOf bank.new t (Variable (text_at bank.old name))) }
     ensures grows { Grows bank.old bank.new }
+    ensures names { AddsSymbols bank.old bank.new }
     ensures not_deep { result ≡ Err BankFault.Deep → ⊥ }
 {
     match bank.var(name) {
@@ -78,6 +85,7 @@ fn named_variable(bank: &mut Bank, name: Sym) -> Result<TermId, BankFault>
 fn numeral_id(bank: &mut Bank, number: u128) -> Result<TermId, BankFault>
     ensures ok { IfOk result (λ t. IsIdOf bank.new t (numeral number)) }
     ensures grows { Grows bank.old bank.new }
+    ensures names { AddsSymbols bank.old bank.new }
     ensures not_deep { result ≡ Err BankFault.Deep → ⊥ }
 {
     match bank.num(number) {
@@ -91,6 +99,7 @@ fn leaf_id(bank: &mut Bank, leaf: Leaf) -> Result<TermId, BankFault>
     requires leaf { LeafStands bank.old leaf }
     ensures ok { IfOk result (λ t. IsIdOf bank.new t (leaf_term bank.old leaf)) }
     ensures grows { Grows bank.old bank.new }
+    ensures names { AddsSymbols bank.old bank.new }
     ensures not_deep { result ≡ Err BankFault.Deep → ⊥ }
 {
     match leaf {
@@ -133,6 +142,7 @@ fn take_step(bank: &mut Bank, ids: &mut Vec<TermId>, step: Step) -> Result<(), B
     ensures stand { OnOk result (All (Stands bank.new) ids.new.items) }
     ensures makes { OnOk result (reverse (terms_at bank.new ids.new.items) ≡ step_taken bank.old step (reverse (terms_at bank.old ids.old.items))) }
     ensures grows { Grows bank.old bank.new }
+    ensures names { AddsSymbols bank.old bank.new }
     ensures deep { result ≡ Err BankFault.Deep → HasDeep (step_taken bank.old step (reverse (terms_at bank.old ids.old.items))) }
 {
     match step {
@@ -148,12 +158,14 @@ fn take_step(bank: &mut Bank, ids: &mut Vec<TermId>, step: Step) -> Result<(), B
     }
 }
 
-/// The terms that the steps make, the first first. An error may leave more terms and names in the bank.
+/// The terms that the steps make, the first first. The names that the bank gets are symbols in upper case. An error may leave
+/// more terms and names in the bank.
 pub fn take_steps(bank: &mut Bank, steps: &[Step]) -> Result<Vec<TermId>, BankFault>
     requires steps { All (StepStands bank.old) steps.now }
     ensures stand { IfOk result (λ ids. All (Stands bank.new) ids.items) }
     ensures makes { IfOk result (λ ids. terms_at bank.new ids.items ≡ reverse (stack_of bank.old steps.now)) }
     ensures grows { Grows bank.old bank.new }
+    ensures names { AddsSymbols bank.old bank.new }
 
     // A term that is too deep is refused as such, unless memory is wanting first; no other is.
     ensures deep { result ≡ Err BankFault.Deep → HasDeep (stack_of bank.old steps.now) }

@@ -14,7 +14,7 @@ use std::alloc::AllocError;
 /// A term that no other term of the stack is needed for.
 #[derive(Clone, Copy, Debug, PartialEq, Eq)]
 pub enum Leaf {
-    /// The variable of one letter.
+    /// The variable of one letter, in upper case.
     Letter(u8),
     /// The variable of this name.
     Name(Sym),
@@ -72,15 +72,6 @@ pub fn put_variable(bank: &Bank, steps: &mut Vec<Step>, place: u64) -> Result<()
     ensures makes { OnOk result (stack_of bank.now steps.new.items ≡ part_variable place ∷ stack_of bank.now steps.old.items) }
 {
     put_leaf(bank, steps, Leaf::Part(place))
-}
-
-/// Puts the variable of one letter.
-pub fn put_letter(bank: &Bank, steps: &mut Vec<Step>, letter: u8) -> Result<(), AllocError>
-    requires steps { All (StepStands bank.now) steps.old.items }
-    ensures stand { OnOk result (All (StepStands bank.now) steps.new.items) }
-    ensures makes { OnOk result (stack_of bank.now steps.new.items ≡ Variable (letter ∷ []) ∷ stack_of bank.now steps.old.items) }
-{
-    put_leaf(bank, steps, Leaf::Letter(letter))
 }
 
 /// Puts the variable of a name.

@@ -4,10 +4,9 @@ use Rattle.std.specs.Io.KnownBytes.{Appends}
 use Rattle.nq_run.specs.Outcome.{Held}
 use Rattle.nqthm.specs.Commands.{HasChecked, HasRun}
 
--- A check of the text ends with status 0, or with one that says nothing of the text: a stream failed, memory was wanting, or
--- the text is too long.
+-- A check of the text ends with status 0, or with one that says nothing of the text: a stream failed, or memory was wanting.
 abbrev pub IsAccepted : List ℕ → Type 0
-IsAccepted text = (held now : Option (List ℕ)) (status : ℕ) → HasChecked (Some text) held now status → (status ≡ 0) ⊎ ((4 ≤ status) × (status ≤ 7))
+IsAccepted text = (held now : Option (List ℕ)) (status : ℕ) → HasChecked (Some text) held now status → (status ≡ 0) ⊎ ((4 ≤ status) × (status ≤ 6))
 
 -- The sink of the log gained such a text, where `log` came to the end of its file: at status 0, and at 1.
 abbrev pub WrittenLogs : Type 0

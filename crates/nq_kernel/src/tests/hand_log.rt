@@ -1,8 +1,8 @@
 ghost use Rattle.std.specs.Prelude.{IfOk};
 ghost use Rattle.nq_kernel.specs.Growing.{WorkStands};
 
-use super::{call, line};
-use crate::{Log, Rule, Work};
+use super::{call, line, work_over};
+use crate::{Rule, Work};
 use nq_bank::{Bank, Sym, TermId, ground};
 use nq_clause::Pair;
 use nq_history::History;
@@ -153,7 +153,7 @@ pub fn started(rt: &impl Abort, alloc: Global) -> Result<Start, Fail>
     let left = bank.var(p)?;
     let right = bank.var(q)?;
     let history = History::ground(&mut bank)?;
-    let mut work = Work::new(bank, Log::new(alloc), 1000);
+    let mut work = work_over(bank, &history);
     let terms = hand_terms(rt, &mut work, &history, left, right)?;
     let opened = opening(rt, &mut work, &history, &terms, left, right)?;
     first_lines(rt, &mut work, &history, &terms, opened)?;

@@ -37,17 +37,39 @@ fn named(bank: &Bank, s: Sym) -> bool
     s.0 < bank.mark().names
 }
 
+/// Adds an axiom that is one of the first terms of the bank.
+fn add_axiom(
+    rt: &impl Abort,
+    bank: &Bank,
+    history: &mut History,
+    first: u64,
+    name: Sym,
+    axiom: TermId,
+)
+    requires stands { HistoryStands bank.now history.old }
+    requires spelled { HasSpelledTerms (events_at bank.now history.old) }
+    ensures stands { HistoryStands bank.now history.new }
+    ensures spelled { HasSpelledTerms (events_at bank.now history.new) }
+{
+    assert!(rt; named(bank, name) && stands(bank, axiom));
+    assert!(rt; is_in(bank, history, first, axiom));
+    let pushed = push_axiom(bank, history, name, axiom);
+    assert!(rt; pushed.is_ok());
+}
+
 /// The ground history and an axiom of one of the first terms of the bank.
-fn history_with(rt: &impl Abort, bank: &mut Bank, name: Sym, axiom: TermId) -> Result<History, Fail>
+pub(super) fn history_with(
+    rt: &impl Abort,
+    bank: &mut Bank,
+    name: Sym,
+    axiom: TermId,
+) -> Result<History, Fail>
     ensures stands { IfOk result (HistoryStands bank.new) }
     ensures spelled { IfOk result (λ h. HasSpelledTerms (events_at bank.new h)) }
 {
     let made = bank.len();
     let mut history = History::ground(bank)?;
-    assert!(rt; named(bank, name) && stands(bank, axiom));
-    assert!(rt; is_in(bank, &history, made, axiom));
-    let pushed = push_axiom(bank, &mut history, name, axiom);
-    assert!(rt; pushed.is_ok());
+    add_axiom(rt, bank, &mut history, made, name, axiom);
     Ok(history)
 }
 
@@ -94,6 +116,22 @@ fn instances_of_an_axiom_are_proved(rt: HostRuntime) -> Result<(), Fail> {
     Ok(())
 }
 
+/// The ground history and two axioms, each of one of the first terms of the bank.
+fn history_with_two(
+    rt: &impl Abort,
+    bank: &mut Bank,
+    names: (Sym, Sym),
+    axioms: (TermId, TermId),
+) -> Result<History, Fail>
+    ensures stands { IfOk result (HistoryStands bank.new) }
+    ensures spelled { IfOk result (λ h. HasSpelledTerms (events_at bank.new h)) }
+{
+    let made = bank.len();
+    let mut history = history_with(rt, bank, names.0, axioms.0)?;
+    add_axiom(rt, bank, &mut history, made, names.1, axioms.1);
+    Ok(history)
+}
+
 #[test]
 fn the_oldest_axiom_is_taken(rt: HostRuntime) -> Result<(), Fail> {
     let mut bank = Bank::new(rt.alloc())?;
@@ -102,12 +140,8 @@ fn the_oldest_axiom_is_taken(rt: HostRuntime) -> Result<(), Fail> {
     let pattern = term(&rt, &mut bank, b"$X")?;
     let narrower = term(&rt, &mut bank, b"$$X")?;
     let goal = term(&rt, &mut bank, b"$$P")?;
-    let made = bank.len();
-    let mut history = history_with(&rt, &mut bank, first, pattern)?;
-    assert!(rt; named(&bank, second) && stands(&bank, narrower) && stands(&bank, goal));
-    assert!(rt; is_in(&bank, &history, made, narrower));
-    let pushed = push_axiom(&bank, &mut history, second, narrower);
-    assert!(rt; pushed.is_ok());
+    let history = history_with_two(&rt, &mut bank, (first, second), (pattern, narrower))?;
+    assert!(rt; stands(&bank, goal));
     let found = earlier_instance(&bank, &history, goal)?;
     assert!(rt; found.is_some());
     if let Some(earlier) = found {

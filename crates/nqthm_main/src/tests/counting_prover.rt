@@ -1,39 +1,44 @@
 // The run over a prover of another kind: one that counts what it has learnt, and gives up past the first pass.
+ghost use Rattle.std.specs.Prelude.{◌≡◌, length};
 ghost use Rattle.nq_kernel.specs.Proving.{HasGround};
 
-use nq_bank::{Bank, TermId};
+use nq_bank::{Bank, Mark, TermId};
 use nq_history::{GROUND_LENGTH, Hints, History};
 use nq_io::{MemSink, MemSource, SureSink};
 use nq_kernel::{Cause, Prover, Verdict, Work};
 use nq_quick::FirstPass;
 use nq_run::run_events;
-use std::alloc::AllocError;
+use std::alloc::{AllocError, Global};
 use std::test::Fail;
 
-/// How many entries were learnt, and how many lemmas were tried.
+/// How many entries were learnt, how many lemmas were tried, and where the bank ended when the last entry was learnt.
 #[derive(Drop)]
 struct CountingProver {
     learnt: u64,
     tried: u64,
+    end: Mark,
 }
 
 impl CountingProver {
     /// It has learnt the ground history.
     fn new() -> Self
-        ensures { HasGround (λ _. Unit {0}) }
+        ensures { HasGround (λ entries. result.learnt ≡ length entries) }
     {
         CountingProver {
             learnt: GROUND_LENGTH as u64,
             tried: 0,
+            end: Mark { nodes: 0, names: 0 },
         }
     }
 }
 
 impl Prover for CountingProver {
-    ghost has_learnt = { λ _ _. Unit {0} };
+    // It knows of the entries only how many they are.
+    ghost has_learnt = { λ prover entries. prover.learnt ≡ length entries };
 
-    fn learn(&mut self, _bank: &Bank, history: &History) -> Result<(), AllocError> {
+    fn learn(&mut self, bank: &Bank, history: &History) -> Result<(), AllocError> {
         self.learnt = history.len();
+        self.end = bank.mark();
         Ok(())
     }
 
@@ -56,9 +61,26 @@ impl Prover for CountingProver {
     }
 }
 
+/// A prover after the run of some forms, and whether the run came to their end.
+fn after_forms(alloc: Global, forms: &[u8]) -> Result<(CountingProver, bool), AllocError> {
+    let mut source = MemSource::new(forms.to_vec(alloc)?, 64, Vec::new(alloc));
+    let mut comment = MemSink::new(alloc, Vec::new(alloc));
+    let mut log = SureSink::new(alloc);
+    let mut prover = CountingProver::new();
+    let ended = run_events(
+        alloc,
+        &mut source,
+        &mut comment,
+        &mut log,
+        false,
+        &mut prover,
+        1000,
+    );
+    Ok((prover, ended.is_ok()))
+}
+
 #[test]
 fn a_prover_learns_just_the_entries_that_stand(rt: HostRuntime) -> Result<(), Fail> {
-    let alloc = rt.alloc();
     for (forms, past_ground, tried) in [
         (b"".as_slice(), 0, 0),
         (b"(DCL E (X)) (DCL E (X)) (ADD-AXIOM A NIL (E X))", 2, 0),
@@ -85,22 +107,38 @@ fn a_prover_learns_just_the_entries_that_stand(rt: HostRuntime) -> Result<(), Fa
             0,
         ),
     ] {
-        let mut source = MemSource::new(forms.to_vec(alloc)?, 64, Vec::new(alloc));
-        let mut comment = MemSink::new(alloc, Vec::new(alloc));
-        let mut log = SureSink::new(alloc);
-        let mut prover = CountingProver::new();
-        let ended = run_events(
-            alloc,
-            &mut source,
-            &mut comment,
-            &mut log,
-            false,
-            &mut prover,
-            1000,
-        );
-        assert!(rt; ended.is_ok());
+        let (prover, ended) = after_forms(rt.alloc(), forms)?;
+        assert!(rt; ended);
         assert_eq!(rt; prover.learnt, GROUND_LENGTH as u64 + past_ground);
         assert_eq!(rt; prover.tried, tried);
+    }
+    Ok(())
+}
+
+#[test]
+fn a_form_that_is_not_taken_leaves_nothing_in_the_bank(rt: HostRuntime) -> Result<(), Fail> {
+    let (plain, ended) = after_forms(rt.alloc(), b"(DCL E (X)) (DCL G (X))")?;
+    assert!(rt; ended);
+    for between in [
+        // refused before and after its terms were read, and skipped
+        b"(DCL NEW (FRESH FRESH))".as_slice(),
+        b"(PROVE-LEMMA L NIL (FOO (CONS FRESH (CONS 7 8))))",
+        b"(ADD-AXIOM PLUS NIL (EQUAL FRESH (CONS 7 8)))",
+        b"(ADD-SHELL NEW NIL NEWP ((PART (NONE-OF) FRESH)))",
+        b"(DEFN NEW (FRESH) (NEW (CONS FRESH 7)))",
+        b"(TOGGLE NEW-OFF NONE T) (UNDO-BACK-THROUGH NONE)",
+        b"(SETQ FRESH NIL) (FRESH)",
+        // failed, and undone
+        b"(PROVE-LEMMA L NIL (EQUAL FRESH (CONS 7 8)))",
+        b"(DEFN NEW (FRESH) (CONS FRESH 7)) (UNDO-BACK-THROUGH NEW)",
+    ] {
+        let mut forms = b"(DCL E (X)) ".to_vec(rt.alloc())?;
+        forms.extend_from_slice(between)?;
+        forms.extend_from_slice(b" (DCL G (X))")?;
+        let (other, ended) = after_forms(rt.alloc(), forms.as_slice())?;
+        assert!(rt; ended);
+        assert_eq!(rt; other.learnt, plain.learnt);
+        assert_eq!(rt; other.end, plain.end);
     }
     Ok(())
 }

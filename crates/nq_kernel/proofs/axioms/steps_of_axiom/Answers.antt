@@ -1,15 +1,14 @@
 use Rattle.std.proofs.Common.{◌≡◌, List, ◌++◌, ap, ◌∙◌}
 use Rattle.std.specs.Option.{option_map}
 use Rattle.nq_logic.specs.Terms.{Name}
-use Rattle.nq_logic.specs.Histories.{events_definitions, events_shells}
-use Rattle.nq_logic.specs.Ground.{ground_definitions, ground_shells}
+use Rattle.nq_logic.specs.Histories.{events_definitions}
+use Rattle.nq_logic.specs.Ground.{ground_definitions}
 use Rattle.nq_bank.specs.Content.{Content, text_at}
-use Rattle.nq_bank.specs.Shells.{shells_at}
 use Rattle.nq_proof.specs.Rows.{definition_found, opening}
 use Rattle.nq_axiom.specs.Openings.{opened}
 use Rattle.nq_history.specs.declared.entry.Entry.{Entry}
 use Rattle.nq_history.specs.Events.{all_events_at, events_at}
-use Rattle.nq_kernel.proofs.EntryLemmas.{definitions_are, shells_are}
+use Rattle.nq_kernel.proofs.EntryLemmas.{definitions_are}
 use Rattle.nq_kernel.proofs.axioms.steps_of_axiom.Goals as goal
 
 pub returns-clause-axiom : goal.returns-clause-axiom
@@ -21,9 +20,4 @@ returns-clause-axiom c =
     c.definition_among-definition.ensures.definition ∙
     ap (λ es. option_map opening (definition_found name (events_definitions (all_events_at bank es)))) c.entries.ensures ∙
     ap (λ ds. option_map opening (definition_found name ds)) (definitions_are bank history c.requires.history) in
-    let shells : shells_at bank c.as_slice.result.now ≡ ground_shells ++ events_shells (events_at bank history) =
-    ap (shells_at bank) c.as_slice.ensures.value ∙
-    c.in_ok-shells.ensures.shells ∙
-    ap (λ es. events_shells (all_events_at bank es)) c.entries-2.ensures ∙
-    shells_are bank history c.requires.history in
-    c.axiom_steps.ensures.axiom (events_at bank history) definition shells
+    c.axiom_steps.ensures.axiom (events_at bank history) definition (c.shells.ensures.logic bank c.requires.history)

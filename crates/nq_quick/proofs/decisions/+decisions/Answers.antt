@@ -379,3 +379,6 @@ decide-returns-in-Some-clause-line t c =
     let value : c.is_true-value.result ≡ truth_at old.bank a c.args.t = c.is_true-value.ensures ∙ ap (λ (ids : List TermId). truth_with (terms_at old.bank ids) (proposition_of (term_at old.bank c.args.t))) c.as_slice.ensures.value in
     subst (λ (b : Bool). Says old c.in-Some.line b c.args.t a.denials.items) value (
     subst (Says old c.in-Some.line c.is_true-value.result c.args.t) c.as_slice-denials.ensures.value c.in-Some.ensures)
+
+pub decide_right-returns-then-says-clause-grows : goal.decide_right-returns-then-says-clause-grows
+decide_right-returns-then-says-clause-grows t c = grown_refl c.args.history.now c.args.work.now c.requires.stands

@@ -1,3 +1,4 @@
+use Rattle.std.proofs.Common.{◌∙◌}
 use Rattle.nq_bank.specs.Content.{Content, Grows}
 use Rattle.nq_bank.proofs.Growth.{Grows-trans}
 use Rattle.nq_clause.specs.declared.binding.Binding.{Binding}
@@ -14,6 +15,7 @@ loop-b-preserved c =
     let both : Grows old new = Grows-trans old bank new c.loop-b.invariant.grows c.id_of_bound.ensures.grows in
     record {
       grows = both;
+      names = c.id_of_bound.ensures.names ∙ c.loop-b.invariant.names;
       pairs = pairs_more old bank new c.args.bindings.now c.loop-b.b-index d c.loop-b.invariant.grows c.id_of_bound.ensures.grows c.loop-b-test.true c.requires c.loop-b.pairs.items c.push.new.self.items c.in_ok-term.term c.in_ok-push.ensures.items c.loop-b.invariant.stand c.in_ok-term.ensures.term both c.loop-b.invariant.pairs;
       stand = pairs_stand_more old bank new c.args.bindings.now c.loop-b.b-index d c.loop-b.invariant.grows c.id_of_bound.ensures.grows c.loop-b-test.true c.requires c.loop-b.pairs.items c.push.new.self.items c.in_ok-term.term c.in_ok-push.ensures.items c.loop-b.invariant.stand c.in_ok-term.ensures.term both;
     }

@@ -10,6 +10,7 @@ abbrev pub invariant-loop-b : goal.invariant-loop-b
 invariant-loop-b l =
     record {
       grows : Grows l.fn.bank l.bank;
+      names : l.bank.names ≡ l.fn.bank.names;
       pairs : substitution_at l.bank l.pairs.items ≡ bindings_at l.fn.bank (take l.b-index l.bindings);
       stand : All (PairStands l.bank) l.pairs.items;
     }

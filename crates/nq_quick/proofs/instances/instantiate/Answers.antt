@@ -6,7 +6,7 @@ use Rattle.nq_kernel.specs.declared.rule.Rule.TheVariants.{Instance}
 use Rattle.nq_kernel.specs.Meaning.{clause_at, conclusion_at}
 use Rattle.nq_quick.specs.Lines.{LineHasOnly}
 use Rattle.nq_quick.specs.Patterns.{instance_literals}
-use Rattle.nq_quick.proofs.LineLemmas.{only_same}
+use Rattle.nq_quick.proofs.LineLemmas.{grown_refl, only_same}
 use Rattle.nq_quick.proofs.InstanceLemmas.{instance_only, instance_shallow, only_some, pairs_stand}
 use Rattle.nq_quick.proofs.InLemmas.{instance_in}
 use Rattle.nq_quick.proofs.instances.instantiate.Goals as goal
@@ -33,3 +33,6 @@ returns-clause-line c =
 
 pub add_line-requires-clause-over : goal.add_line-requires-clause-over
 add_line-requires-clause-over c = instance_in c.args.work.now.bank c.args.history.now c.args.line c.in_ok-pairs.pairs c.args.first c.args.second c.args.t c.args.case.connective c.in_ok-pairs.ensures.items c.requires.first c.requires.second c.requires.whole.denotes c.requires.over
+
+pub returns-in_err-pairs-clause-grows : goal.returns-in_err-pairs-clause-grows
+returns-in_err-pairs-clause-grows c = grown_refl c.args.history.now c.args.work.now c.requires.stands

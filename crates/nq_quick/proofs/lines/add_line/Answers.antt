@@ -12,13 +12,13 @@ returns-in-Ok-clause-line c = added_clause c.args.work.now.bank c.add.new.bank c
 pub returns-in-Ok-clause-grows : goal.returns-in-Ok-clause-grows
 returns-in-Ok-clause-grows c =
     record {
-      grows = grows_by_line c.args.history.now c.args.work.now c.add.new.bank c.add.new.self c.args.work.now.counter c.args.rule c.in-Ok.n c.requires.stands c.requires.rule c.requires.over c.add.ensures.grows c.in-Ok.ensures.line (uncounted c.args.work.now.counter);
+      grows = grows_by_line c.args.history.now c.args.work.now c.add.new.bank c.add.new.self c.args.work.now.counter c.args.rule c.in-Ok.n c.requires.stands c.requires.rule c.requires.over c.add.ensures.grows c.add.ensures.symbols c.in-Ok.ensures.line (uncounted c.args.work.now.counter);
       uncounted = refl;
     }
 
 pub returns-in-Err-Memory-clause-grows : goal.returns-in-Err-Memory-clause-grows
 returns-in-Err-Memory-clause-grows c =
     record {
-      grows = grows_without_line c.args.history.now c.args.work.now c.add.new.bank c.add.new.self c.args.work.now.counter c.requires.stands c.add.ensures.grows (err_holds c.add.result _ _ c.add.ensures.err c.in-Err-Memory.is) (uncounted c.args.work.now.counter);
+      grows = grows_without_line c.args.history.now c.args.work.now c.add.new.bank c.add.new.self c.args.work.now.counter c.requires.stands c.add.ensures.grows c.add.ensures.symbols (err_holds c.add.result _ _ c.add.ensures.err c.in-Err-Memory.is) (uncounted c.args.work.now.counter);
       uncounted = refl;
     }

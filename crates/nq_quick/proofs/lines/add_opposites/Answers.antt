@@ -2,7 +2,7 @@ use Rattle.std.proofs.Common.{◌≡◌, Option, ap, subst}
 use Rattle.std.specs.Prelude.{is_some, IfOk}
 use Rattle.nq_proof.specs.Clauses.{Clause}
 use Rattle.nq_kernel.specs.Meaning.{clause_at}
-use Rattle.nq_quick.proofs.LineLemmas.{opposites_given, opposites_shallow}
+use Rattle.nq_quick.proofs.LineLemmas.{grown_refl, opposites_given, opposites_shallow}
 use Rattle.nq_quick.proofs.InLemmas.{opposites_in}
 use Rattle.nq_quick.proofs.lines.add_opposites.Goals as goal
 
@@ -19,3 +19,6 @@ returns-clause-line c =
 
 pub add_line-requires-clause-over : goal.add_line-requires-clause-over
 add_line-requires-clause-over c = opposites_in c.args.work.now.bank c.args.history.now c.in_ok-terms.terms c.args.t c.args.denied c.in_ok-terms.ensures.items c.requires.denied c.requires.over
+
+pub returns-in_err-terms-clause-grows : goal.returns-in_err-terms-clause-grows
+returns-in_err-terms-clause-grows c = grown_refl c.args.history.now c.args.work.now c.requires.stands

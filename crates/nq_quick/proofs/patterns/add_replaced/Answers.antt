@@ -6,7 +6,7 @@ use Rattle.nq_rule.proofs.Made.{for_ok}
 use Rattle.nq_kernel.specs.declared.rule.Rule.TheVariants.{Replace}
 use Rattle.nq_kernel.specs.Meaning.{clause_at, conclusion_at}
 use Rattle.nq_quick.specs.Lines.{HasOnly, LineHasOnly}
-use Rattle.nq_quick.proofs.LineLemmas.{only_same}
+use Rattle.nq_quick.proofs.LineLemmas.{grown_refl, only_same}
 use Rattle.nq_quick.proofs.InstanceLemmas.{only_some}
 use Rattle.nq_quick.proofs.PatternLemmas.{replaced_only, replaced_shallow, folded_literals}
 use Rattle.nq_quick.proofs.InLemmas.{body_in}
@@ -49,3 +49,6 @@ add_line-requires-clause-over c = record { terms = (body_in c.args.work.now.bank
 
 pub add_line-requires-else-value-clause-over : goal.add_line-requires-else-value-clause-over
 add_line-requires-else-value-clause-over c = record { terms = (body_in c.args.work.now.bank c.args.history.now c.args.connective c.args.body c.requires.body, tt); names = tt }
+
+pub returns-in_err-path-clause-grows : goal.returns-in_err-path-clause-grows
+returns-in_err-path-clause-grows c = grown_refl c.args.history.now c.args.work.now c.requires.stands

@@ -13,7 +13,7 @@ use Rattle.nq_quick.specs.declared.assignments.Assignment.{Assignment}
 use Rattle.nq_quick.specs.Lines.{LineHasOnly}
 use Rattle.nq_quick.specs.Decisions.{denials_at}
 use Rattle.nq_quick.specs.Coverings.{CanProve}
-use Rattle.nq_quick.proofs.LineLemmas.{CutsTo, grown_trans, only_stands}
+use Rattle.nq_quick.proofs.LineLemmas.{CutsTo, grown_refl, grown_trans, only_stands}
 use Rattle.nq_quick.proofs.ChoiceLemmas.{line_stands_grown}
 use Rattle.nq_quick.proofs.DecisionLemmas.{assignment_grown}
 use Rattle.nq_quick.proofs.ProvingLemmas.{can_prove_grown, true_can, true_denials, false_can, false_denials, atom_stands, atom_in, last_first, goal_literals, goal_same, denied_grown, first_grown}
@@ -96,3 +96,10 @@ prove_other-add_cut-requires-clause-over t c = term_in_grown c.args.work.now.ban
 
 pub prove_both-deny-requires-clause-term : goal.prove_both-deny-requires-clause-term
 prove_both-deny-requires-clause-term t c = atom_stands c.args.work.now.bank c.args.goal c.args.atom c.args.rest.now c.args.assignment.now c.args.assignment.now c.requires.can
+
+pub prove_other-returns-in_err-without-clause-grows : goal.prove_other-returns-in_err-without-clause-grows
+prove_other-returns-in_err-without-clause-grows t c = grown_refl c.args.history.now c.args.work.now c.requires.stands
+
+pub prove_other-says-requires-clause-others : goal.prove_other-says-requires-clause-others
+prove_other-says-requires-clause-others t c =
+    subst (All (Stands c.prove.new.work.bank)) (sym c.as_slice.ensures.value) (assignment_grown c.args.work.now.bank c.prove.new.work.bank c.prove.ensures.grows.grows.bank c.args.assignment.now c.requires.can.assignment).denials

@@ -7,7 +7,7 @@ use Rattle.nq_comment.specs.ReportViews.{ending_of}
 use Rattle.nq_comment.specs.Totals.{totals_in}
 use Rattle.nq_comment.specs.declared.counts.Counts.{Counts}
 use Rattle.nq_comment.specs.declared.report.SyntaxFault.{SyntaxFault}
-use Rattle.nq_run.specs.Outcome.{Finished, held_in, IsStop, last_text}
+use Rattle.nq_run.specs.Outcome.{Finished, held_in, IsStop}
 use Rattle.nq_run.specs.declared.runs.RunFault.{RunFault}
 use Rattle.nq_run.specs.declared.runs.RunFault.TheVariants as run_fault
 use Rattle.nq_run.proofs.RunLemmas.{Ran-cut, Ran-filled, Ran-finished, Ran-halted, Ran-interrupted, if_ok_on, if_some_weaker, log_within_told, logs_told, on_err_weaker, ran_as}
@@ -28,25 +28,29 @@ returns-in-Ok-clause-finished g c =
     let ending = ending_of c.in-Ok.fault in
     let reads : IfSome left (λ text. Reads 500 (2 ^ 25) text forms ending) =
     if_some_weaker left _ _ (λ text stop. c.in-Ok.ensures.reads text forms (g.S.Source.left c.run_forms.new.src) stop) walked.3 in
-    if_ok_on c.finish.result _ _ _ _ (λ ended is appends logs. (
+    if_ok_on c.finish.result _ _ _ _ _ (λ ended is appends logs small. (
       ran.reports,
       subst (λ (z : Option SyntaxFault). Finished logging left (ending_of z) ran.reports held now) (sym is.1)
           (Ran-finished logging left c.in-Ok.fault forms walked.1.0 (totals_in progress.counts) progress.log.count held before now ran reads walked.2 appends
-          (logs_told progress.log.logging logging _ _ _ told.logging logs)),
+          (logs_told progress.log.logging logging _ _ _ told.logging logs) (λ w. small (told.logging ∙ w))),
       ap (λ (z : Counts). totals_in z) is.0 ∙ ran.counted,
-    )) c.finish.ensures.ended c.finish.ensures.ok c.finish.ensures.log_ok
+    )) c.finish.ensures.ended c.finish.ensures.ok c.finish.ensures.log_ok c.finish.ensures.small
 
 pub returns-in-Ok-clause-too_long : goal.returns-in-Ok-clause-too_long
 returns-in-Ok-clause-too_long g c e =
     let told = c.in_ok-walked.ensures in
     let walked = told.walked in
     let progress = c.in_ok-walked.walked.progress in
+    let left = g.S.Source.left c.args.src.now in
+    let ending = ending_of c.in-Ok.fault in
+    let reads : IfSome left (λ text. Reads 500 (2 ^ 25) text walked.0 ending) =
+    if_some_weaker left _ _ (λ text stop. c.in-Ok.ensures.reads text walked.0 (g.S.Source.left c.run_forms.new.src) stop) walked.3 in
     let full = c.finish.ensures.full e in
     let logging = sym told.logging ∙ full.0 in
     inr (
       logging,
-      Ran-filled (g.S.Source.left c.args.src.now) walked.0 walked.1.0 (totals_in progress.counts) progress.log.count _ _ _ (last_text (ending_of c.in-Ok.fault))
-          (ran_as c.args.logging true _ _ _ _ _ _ logging walked.1.1) walked.2 full.1 full.2 full.3,
+      Ran-filled left c.in-Ok.fault walked.0 walked.1.0 (totals_in progress.counts) progress.log.count _ _ _
+          (ran_as c.args.logging true _ _ _ _ _ _ logging walked.1.1) reads walked.2 told.bound full.1 full.2 full.3,
     )
 
 pub returns-in-Ok-clause-stopped : goal.returns-in-Ok-clause-stopped

@@ -8,6 +8,7 @@ use Rattle.nq_bank.proofs.Standing.{passed_on}
 use Rattle.nq_steps.specs.declared.steps.Leaf.TheVariants.{Letter}
 use Rattle.nq_steps.specs.declared.steps.Step.TheVariants.{Leaf as LeafStep}
 use Rattle.nq_steps.specs.Steps.{steps_taken}
+use Rattle.nq_steps.proofs.NameLemmas.{AddsSymbols-trans}
 use Rattle.nq_steps.proofs.MakingLemmas.{step_more, deep_step, none_deep}
 use Rattle.nq_steps.proofs.making.take_steps.Goals as goal
 
@@ -20,6 +21,7 @@ loop-step-preserved c =
     let ts : List Term = reverse (terms_at bank c.loop-step.ids.items) in
     record {
       grows = Grows-trans old bank c.take_step.new.bank c.loop-step.invariant.grows c.take_step.ensures.grows;
+      names = AddsSymbols-trans old bank c.take_step.new.bank c.loop-step.invariant.names c.take_step.ensures.names;
       stand = c.in_ok-take_step.ensures.stand;
       makes =
           ap (steps_taken old (drop (i + 1) steps)) c.in_ok-take_step.ensures.makes ∙

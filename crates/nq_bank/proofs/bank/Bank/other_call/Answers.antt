@@ -34,20 +34,20 @@ returns-then-kept-gt-DEPTH_LIMIT-clause-deep c =
 pub invariant_of-self : goal.invariant_of-self
 invariant_of-self c =
     let bank : Content = c.args.self.now in
-    let names : List (List ℕ) = texts_of c.self.inside.names.items in
+    let names : List (List ℕ) = texts_of c.self.inside.names.keys in
     let kept : Kept = c.kept_of_call-kept.result in
     let known : IsCallKept bank c.args.f c.args.args.now kept.depth kept.size kept.value = record { named = c.requires.function; below = c.requires.arguments; other = c.requires.other; depth_is = c.kept_of_call-kept.ensures.depth; shallow = c.if-kept-gt-DEPTH_LIMIT.false; size_is = c.kept_of_call-kept.ensures.size; value_is = c.kept_of_call-kept.ensures.value } in
-    let can = can_place_call_of names c.self.inside.nodes.items bank c.args.f (length c.args.args.now) c.args.args.now kept.depth kept.size kept.value c.self.view_is refl known in
-    held_after names c.self.inside.nodes.items c.place-placed.new.nodes.items c.place-placed.result (App c.args.f (length c.args.args.now)) c.args.args.now kept.depth kept.size kept.value (call (text_at bank c.args.f) (terms_at bank c.args.args.now)) c.self.invariant can c.place-placed.ensures.ok c.place-placed.ensures.err
+    let can = can_place_call_of names c.self.inside.nodes.keys bank c.args.f (length c.args.args.now) c.args.args.now kept.depth kept.size kept.value c.self.view_is refl known in
+    held_after names c.self.inside.nodes.keys c.place-placed.new.nodes.keys c.place-placed.result (App c.args.f (length c.args.args.now)) c.args.args.now kept.depth kept.size kept.value (call (text_at bank c.args.f) (terms_at bank c.args.args.now)) c.self.invariant can c.place-placed.ensures.ok c.place-placed.ensures.err
 
 pub returns-clause-ok : goal.returns-clause-ok
 returns-clause-ok c =
     let bank : Content = c.args.self.now in
-    let names : List (List ℕ) = texts_of c.self.inside.names.items in
+    let names : List (List ℕ) = texts_of c.self.inside.names.keys in
     let kept : Kept = c.kept_of_call-kept.result in
     let known : IsCallKept bank c.args.f c.args.args.now kept.depth kept.size kept.value = record { named = c.requires.function; below = c.requires.arguments; other = c.requires.other; depth_is = c.kept_of_call-kept.ensures.depth; shallow = c.if-kept-gt-DEPTH_LIMIT.false; size_is = c.kept_of_call-kept.ensures.size; value_is = c.kept_of_call-kept.ensures.value } in
-    let can = can_place_call_of names c.self.inside.nodes.items bank c.args.f (length c.args.args.now) c.args.args.now kept.depth kept.size kept.value c.self.view_is refl known in
-    if_ok c.place-placed.result c.or_memory.result _ c.or_memory.ensures (gives_after names c.self.inside.nodes.items c.place-placed.new.nodes.items bank c.place-placed.result (App c.args.f (length c.args.args.now)) c.args.args.now kept.depth kept.size kept.value (call (text_at bank c.args.f) (terms_at bank c.args.args.now)) c.self.view_is c.self.invariant can c.place-placed.ensures.ok)
+    let can = can_place_call_of names c.self.inside.nodes.keys bank c.args.f (length c.args.args.now) c.args.args.now kept.depth kept.size kept.value c.self.view_is refl known in
+    if_ok c.place-placed.result c.or_memory.result _ c.or_memory.ensures (gives_after names c.self.inside.nodes.keys c.place-placed.new.nodes.keys bank c.place-placed.result (App c.args.f (length c.args.args.now)) c.args.args.now kept.depth kept.size kept.value (call (text_at bank c.args.f) (terms_at bank c.args.args.now)) c.self.view_is c.self.invariant can c.place-placed.ensures.ok)
 
 pub returns-clause-deep : goal.returns-clause-deep
 returns-clause-deep c =

@@ -1,13 +1,11 @@
 use Rattle.std.proofs.Common.{List, sym, ap, ◌∙◌}
 use Rattle.std.specs.Prelude.{is_none}
-use Rattle.nq_logic.specs.Histories.{Shell, events_shells}
+use Rattle.nq_logic.specs.Histories.{Shell}
 use Rattle.nq_logic.specs.Names.{is_in_use}
 use Rattle.nq_logic.specs.ShellPrinciple.{shell_refusal, shells_of}
-use Rattle.nq_bank.specs.Shells.{shell_at, shells_at}
-use Rattle.nq_history.specs.declared.entry.Entry.{Entry}
-use Rattle.nq_history.specs.Events.{all_events_at}
+use Rattle.nq_bank.specs.Shells.{shell_at}
 use Rattle.nq_check.specs.Contexts.{state_of}
-use Rattle.nq_check.proofs.ShellLemmas.{answer_is, refused_used, shells_same, unused}
+use Rattle.nq_check.proofs.ShellLemmas.{answer_is, refused_used, unused}
 use Rattle.nq_check.proofs.context.Context.accepts.Goals as goal
 
 pub returns-then-uses_name_of : goal.returns-then-uses_name_of
@@ -20,11 +18,7 @@ returns c =
     let bank = c.args.self.now.bank in
     let h = (state_of c.args.self.now).history in
     let s : Shell = shell_at bank c.args.shell.now in
-    let shells =
-    ap (shells_at bank) c.as_slice.ensures.value
-    ∙ c.in_ok-shells.ensures.shells
-    ∙ ap (λ (es : List Entry). events_shells (all_events_at bank es)) c.entries.ensures
-    ∙ shells_same bank c.args.self.now.history c.requires.whole.history.stands in
+    let shells = c.shells.ensures.logic bank c.requires.whole.history.stands in
     c.is_ok.ensures.value
     ∙ answer_is bank c.admit_shell.result
     ∙ ap is_none (c.admit_shell.ensures.refusal (λ n. is_in_use n h) (unused bank (λ n. is_in_use n h) s (sym c.uses_name_of.ensures ∙ c.if-uses_name_of.false)))

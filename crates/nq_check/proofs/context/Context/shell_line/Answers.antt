@@ -16,13 +16,13 @@ pub returns-then-not-may_end_in_shell : goal.returns-then-not-may_end_in_shell
 returns-then-not-may_end_in_shell c =
     shell_denied c.args.self.now c.args.constructor.now c.args.base.now c.args.recognizer.now (sym c.may_end_in_shell.ensures ∙ c.if-not-may_end_in_shell.true)
 
-pub returns-then-not-branch : goal.returns-then-not-branch
-returns-then-not-branch c =
+pub returns-then-not-accepts : goal.returns-then-not-accepts
+returns-then-not-accepts c =
     let old = c.args.self.now in
     let mid = c.take_shell.new.self in
     let s : Shell = shell_at mid.bank c.in_ok-shell.shell in
     refused_after old c.args.constructor.now c.args.base.now c.args.recognizer.now (state_of mid).history s (history_kept old mid c.requires c.take_shell.ensures.history c.take_shell.ensures.grows)
-    c.in_ok-shell.ensures.shell (sym c.in_ok-accepts.ensures ∙ c.if-not-branch.true)
+    c.in_ok-shell.ensures.shell (sym c.accepts.ensures ∙ c.if-not-accepts.true)
 
 pub returns : goal.returns
 returns c =
@@ -34,5 +34,5 @@ returns c =
     (λ judged. Leads (state_of old) (claimed (shell_claim (state_of old) (name c.args.constructor.now ∷ name c.args.base.now ∷ name c.args.recognizer.now ∷ []))) judged new)
     (λ judged h.
     claimed_after old c.args.constructor.now c.args.base.now c.args.recognizer.now (state_of mid) s judged new (history_kept old mid c.requires c.take_shell.ensures.history c.take_shell.ensures.grows) c.in_ok-shell.ensures.shell
-    (sym c.may_end_in_shell.ensures ∙ c.if-not-may_end_in_shell.false) (sym c.in_ok-accepts.ensures ∙ c.if-not-branch.false) h)
+    (sym c.may_end_in_shell.ensures ∙ c.if-not-may_end_in_shell.false) (sym c.accepts.ensures ∙ c.if-not-accepts.false) h)
     c.add_entry.ensures

@@ -1,9 +1,9 @@
-use Rattle.std.proofs.Common.{◌≡◌, ◌≤◌, ◌<◌, List, [], length, take, drop, get_or, map, sym, ap, subst, ◌∙◌, arith}
+use Rattle.std.proofs.Common.{◌≡◌, ◌≤◌, ◌<◌, List, [], length, take, map, sym, ap, subst, ◌∙◌, arith}
 use Rattle.std.proofs.lemmas.List.{take_all, length-take-le, drop_all}
 use Rattle.nq_bank.specs.Content.{Content}
 use Rattle.nq_bank.specs.Marks.{released}
 use Rattle.nq_history.specs.declared.entry.Entry.{Entry}
-use Rattle.nq_history.specs.Events.{event_at, events_at, ground_length, past_ground, HistoryStands}
+use Rattle.nq_history.specs.Events.{event_at, events_at, ground_length, HistoryStands}
 use Rattle.nq_history.specs.Marking.{AreMarked}
 use Rattle.nq_history.proofs.MarkingLemmas.{entry_at, undo_marked, undo_stands}
 use Rattle.nq_history.proofs.history.History.back_to_ground.Goals as goal

@@ -11,7 +11,7 @@ pub overflow_sub-undone : goal.overflow_sub-undone
 overflow_sub-undone c =
     let history = c.args.self.now in
     let name = c.args.name in
-    let kept : c.count_before-kept.result ≡ length (entries_before name history) = c.count_before-kept.ensures ∙ ap (λ es. length (entries_before name es)) (c.as_slice.ensures.value ∙ c.self.view_is) in
+    let kept : c.count_before-kept.result ≡ length (entries_before name history) = c.count_before-kept.ensures in
     let all : c.len.result ≡ length history = c.len.ensures ∙ c.self.inside.entries.ok.0 ∙ ap length c.self.view_is in
     let again : c.len-in-None.result ≡ length history = c.len-in-None.ensures ∙ c.self.inside.entries.ok.0 ∙ ap length c.self.view_is in
     let place = undo_place name history c.count_before-kept.result c.len.result kept all (sym c.undo_fault.ensures ∙ c.in-None.is) in
@@ -21,7 +21,7 @@ pub undo_to-requires-clause-kept : goal.undo_to-requires-clause-kept
 undo_to-requires-clause-kept c =
     let history = c.args.self.now in
     let name = c.args.name in
-    let kept : c.count_before-kept.result ≡ length (entries_before name history) = c.count_before-kept.ensures ∙ ap (λ es. length (entries_before name es)) (c.as_slice.ensures.value ∙ c.self.view_is) in
+    let kept : c.count_before-kept.result ≡ length (entries_before name history) = c.count_before-kept.ensures in
     let all : c.len.result ≡ length history = c.len.ensures ∙ c.self.inside.entries.ok.0 ∙ ap length c.self.view_is in
     (undo_place name history c.count_before-kept.result c.len.result kept all (sym c.undo_fault.ensures ∙ c.in-None.is)).0
 
@@ -29,14 +29,14 @@ pub returns-in-None-clause-history : goal.returns-in-None-clause-history
 returns-in-None-clause-history c =
     let history = c.args.self.now in
     let name = c.args.name in
-    let kept : c.count_before-kept.result ≡ length (entries_before name history) = c.count_before-kept.ensures ∙ ap (λ es. length (entries_before name es)) (c.as_slice.ensures.value ∙ c.self.view_is) in
+    let kept : c.count_before-kept.result ≡ length (entries_before name history) = c.count_before-kept.ensures in
     c.undo_to.ensures.history ∙ ap (λ n. take n history) kept ∙ before_is name history
 
 pub returns-in-None-clause-bank : goal.returns-in-None-clause-bank
 returns-in-None-clause-bank c =
     let history = c.args.self.now in
     let name = c.args.name in
-    let kept : c.count_before-kept.result ≡ length (entries_before name history) = c.count_before-kept.ensures ∙ ap (λ es. length (entries_before name es)) (c.as_slice.ensures.value ∙ c.self.view_is) in
+    let kept : c.count_before-kept.result ≡ length (entries_before name history) = c.count_before-kept.ensures in
     if_found (entry_named name history) (λ e. c.undo_to.new.bank ≡ released c.args.bank.now e.mark)
     (λ e is. c.undo_to.ensures.bank e (named_at name history e is ∙ ap (λ n. get_or history n e) (sym kept)))
 
@@ -46,7 +46,7 @@ returns-in-None-clause-events c =
     let history = c.args.self.now in
     let name = c.args.name in
     let bank = c.args.bank.now in
-    let kept : c.count_before-kept.result ≡ length (entries_before name history) = c.count_before-kept.ensures ∙ ap (λ es. length (entries_before name es)) (c.as_slice.ensures.value ∙ c.self.view_is) in
+    let kept : c.count_before-kept.result ≡ length (entries_before name history) = c.count_before-kept.ensures in
     let all : c.len.result ≡ length history = c.len.ensures ∙ c.self.inside.entries.ok.0 ∙ ap length c.self.view_is in
     let place = undo_place name history c.count_before-kept.result c.len.result kept all (sym c.undo_fault.ensures ∙ c.in-None.is) in
     ap (events_at bank) (c.undo_to.ensures.history ∙ ap (λ n. take n history) kept ∙ before_is name history) ∙
@@ -58,7 +58,7 @@ returns-in-None-clause-marked c =
     let history = c.args.self.now in
     let name = c.args.name in
     let bank = c.args.bank.now in
-    let kept : c.count_before-kept.result ≡ length (entries_before name history) = c.count_before-kept.ensures ∙ ap (λ es. length (entries_before name es)) (c.as_slice.ensures.value ∙ c.self.view_is) in
+    let kept : c.count_before-kept.result ≡ length (entries_before name history) = c.count_before-kept.ensures in
     let all : c.len.result ≡ length history = c.len.ensures ∙ c.self.inside.entries.ok.0 ∙ ap length c.self.view_is in
     let place = undo_place name history c.count_before-kept.result c.len.result kept all (sym c.undo_fault.ensures ∙ c.in-None.is) in
     let at = entry_at history c.count_before-kept.result place.0 in
@@ -71,7 +71,7 @@ returns-in-None-clause-stands c =
     let history = c.args.self.now in
     let name = c.args.name in
     let bank = c.args.bank.now in
-    let kept : c.count_before-kept.result ≡ length (entries_before name history) = c.count_before-kept.ensures ∙ ap (λ es. length (entries_before name es)) (c.as_slice.ensures.value ∙ c.self.view_is) in
+    let kept : c.count_before-kept.result ≡ length (entries_before name history) = c.count_before-kept.ensures in
     let all : c.len.result ≡ length history = c.len.ensures ∙ c.self.inside.entries.ok.0 ∙ ap length c.self.view_is in
     let place = undo_place name history c.count_before-kept.result c.len.result kept all (sym c.undo_fault.ensures ∙ c.in-None.is) in
     let at = entry_at history c.count_before-kept.result place.0 in

@@ -13,3 +13,4 @@ returns-in-Err-clause-err c =
     (c.truncate.ensures.events ∙ ap (λ n. take n grown.events) c.len-events.ensures)
     (c.truncate.ensures.functions ∙ ap (λ n. take n grown.functions) c.len-functions.ensures)
     (c.truncate.ensures.arities ∙ ap (λ n. take n grown.arities.items) c.len-functions.ensures)
+    (c.truncate.ensures.shells ∙ ap (λ n. take n grown.shells.items) (c.len-shells.ensures ∙ c.args.self.now.shells.ok.0))

@@ -1,7 +1,8 @@
 use Rattle.std.proofs.Common.{◌≡◌, ◌<◌, ◌≤◌, ℕ, zero, suc, List, [], ◌∷◌, Option, Some, None, length, get_or, nat_lt, is_some, option_copied, slice_get, Bor, refl, sym, ap, ◌∙◌, arith}
 use Rattle.std.proofs.lemmas.Bool.{ltb-true, ltb-false}
 use Rattle.std.specs.Prelude.{IfSome}
-use Rattle.nq_history.specs.Functions.{functions_of, place_in}
+use Rattle.nq_history.specs.Functions.{functions_of}
+use Rattle.nq_history.specs.Places.{place_in}
 use Rattle.nq_history.proofs.FunctionLemmas.{some_arity, no_arity}
 use Rattle.nq_history.proofs.index.Index.arity.Goals as goal
 

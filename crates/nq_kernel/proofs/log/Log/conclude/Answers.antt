@@ -10,6 +10,7 @@ use Rattle.nq_rule.specs.Places.{part_at}
 use Rattle.nq_rule.specs.Results.{weaker_of, instance_of, replacement_of}
 use Rattle.nq_rule.specs.Inductions.{cases_at}
 use Rattle.nq_rule.specs.Sides.{side_of}
+use Rattle.nq_steps.proofs.NameLemmas.{no_names, AddsSymbols-refl}
 use Rattle.nq_kernel.specs.Lines.{ids_at}
 use Rattle.nq_kernel.specs.Meaning.{rule_at, is_axiom_row}
 use Rattle.nq_kernel.proofs.Concluding.{told, is_some-mapped, taut_is, axiom_test, axiom_is, event_test, event_is, weaken_test, weaken_is, cut_test, cut_is, instance_test, instance_is, reflexive_is, replace_stands, replace_leads, replace_is, join_test, join_is, split_first_test, split_first_is, split_second_test, split_second_is, not_not_test, not_not_is, value_test, value_is, induct_is}
@@ -167,3 +168,42 @@ returns-in-AxiomRow-clause-names c =
     λ e.
     let row : is_axiom_row c.args.rule.now ≡ true = ap is_axiom_row c.in-AxiomRow.is in
     absurd cc
+
+pub returns-in-Taut-clause-symbols : goal.returns-in-Taut-clause-symbols
+returns-in-Taut-clause-symbols c = AddsSymbols-refl c.args.bank.now
+
+pub returns-in-EventTerm-clause-symbols : goal.returns-in-EventTerm-clause-symbols
+returns-in-EventTerm-clause-symbols c = AddsSymbols-refl c.args.bank.now
+
+pub returns-in-Weaken-clause-symbols : goal.returns-in-Weaken-clause-symbols
+returns-in-Weaken-clause-symbols c = AddsSymbols-refl c.args.bank.now
+
+pub returns-in-Cut-clause-symbols : goal.returns-in-Cut-clause-symbols
+returns-in-Cut-clause-symbols c = AddsSymbols-refl c.args.bank.now
+
+pub returns-in-Instance-clause-symbols : goal.returns-in-Instance-clause-symbols
+returns-in-Instance-clause-symbols c = no_names c.args.bank.now c.instance_clause.new.bank c.instance_clause.ensures.names
+
+pub returns-in-Reflexive-clause-symbols : goal.returns-in-Reflexive-clause-symbols
+returns-in-Reflexive-clause-symbols c = no_names c.args.bank.now c.reflexive_clause.new.bank c.reflexive_clause.ensures.names
+
+pub returns-in-Replace-clause-symbols : goal.returns-in-Replace-clause-symbols
+returns-in-Replace-clause-symbols c = no_names c.args.bank.now c.replace_clause.new.bank c.replace_clause.ensures.names
+
+pub returns-in-Join-clause-symbols : goal.returns-in-Join-clause-symbols
+returns-in-Join-clause-symbols c = no_names c.args.bank.now c.join_clause.new.bank c.join_clause.ensures.names
+
+pub returns-in-SplitFirst-clause-symbols : goal.returns-in-SplitFirst-clause-symbols
+returns-in-SplitFirst-clause-symbols c = no_names c.args.bank.now c.split_first.new.bank c.split_first.ensures.names
+
+pub returns-in-SplitSecond-clause-symbols : goal.returns-in-SplitSecond-clause-symbols
+returns-in-SplitSecond-clause-symbols c = AddsSymbols-refl c.args.bank.now
+
+pub returns-in-NotNot-clause-symbols : goal.returns-in-NotNot-clause-symbols
+returns-in-NotNot-clause-symbols c = AddsSymbols-refl c.args.bank.now
+
+pub returns-in-Value-clause-symbols : goal.returns-in-Value-clause-symbols
+returns-in-Value-clause-symbols c = no_names c.args.bank.now c.value_clause.new.bank c.value_clause.ensures.names
+
+pub returns-in-Induct-clause-symbols : goal.returns-in-Induct-clause-symbols
+returns-in-Induct-clause-symbols c = AddsSymbols-refl c.args.bank.now

@@ -11,14 +11,15 @@ use Rattle.nq_block.specs.Closings.{claim_at}
 use Rattle.nq_comment.specs.ReportViews.{answer_of}
 use Rattle.nq_events.specs.Events as model
 use Rattle.nq_run.specs.HistoryView.{history_of}
-use Rattle.nq_run.proofs.NameLemmas.{accepted, dcl_free, hindered, none_told, some_told}
+use Rattle.nq_run.proofs.NameLemmas.{accepted, dcl_free, none_told, some_told}
+use Rattle.nq_run.proofs.TakingLemmas.{hindered}
 use Rattle.nq_run.proofs.session.Session.declare.Goals as goal
 
 pub returns-in-Some-clause-taken : goal.returns-in-Some-clause-taken
 returns-in-Some-clause-taken g c =
     let bank = c.args.self.bank in
     hindered c.args.self (tree c.args.given.form.now) (model.Dcl (text_at bank c.args.name) (texts_at bank c.args.formals.now)) c.args.given.logging (answer_of c.in-Some.answer) c.untaken.result
-    (some_told c.in_ok-answer.field-0 c.in-Some.answer _ c.in_ok-answer.ensures c.in-Some.is) c.untaken.ensures
+    c.untaken.ensures (some_told c.in_ok-answer.field-0 c.in-Some.answer _ c.in_ok-answer.ensures c.in-Some.is)
 
 pub block-requires-clause-closing : goal.block-requires-clause-closing
 block-requires-clause-closing g c =

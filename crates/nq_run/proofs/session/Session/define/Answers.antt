@@ -12,7 +12,8 @@ use Rattle.nq_comment.specs.ReportViews.{answer_of}
 use Rattle.nq_events.specs.Events as model
 use Rattle.nq_run.specs.HistoryView.{history_of}
 use Rattle.nq_run.proofs.DefinitionLemmas.{defn_closes, defn_hindered, defn_taken}
-use Rattle.nq_run.proofs.NameLemmas.{accepted, hindered}
+use Rattle.nq_run.proofs.NameLemmas.{accepted}
+use Rattle.nq_run.proofs.TakingLemmas.{hindered}
 use Rattle.nq_run.proofs.session.Session.define.Goals as goal
 
 pub returns-in-Some-clause-taken : goal.returns-in-Some-clause-taken
@@ -22,9 +23,9 @@ returns-in-Some-clause-taken g c =
     let name = text_at bank c.args.name in
     let body = term_at bank c.args.body in
     let measures = map (measure_at bank) c.args.measures.now in
-    hindered c.args.self form (model.Defn name (texts_at bank c.args.formals.items) body measures) c.args.given.logging (answer_of c.in-Some.answer) c.untaken.result
+    hindered c.args.self form (model.Defn name (texts_at bank c.args.formals.items) body measures) c.args.given.logging (answer_of c.in-Some.answer) c.untaken.result c.untaken.ensures
     (defn_hindered (history_of c.args.self) form bank name c.as_slice.result.now c.args.formals.items body measures c.as_slice.ensures.value c.in_ok-answer.field-0 c.in_ok-answer.ensures
-    c.in-Some.answer c.in-Some.is) c.untaken.ensures
+    c.in-Some.answer c.in-Some.is)
 
 pub block-requires-clause-closing : goal.block-requires-clause-closing
 block-requires-clause-closing g c =

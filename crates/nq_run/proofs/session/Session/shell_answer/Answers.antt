@@ -14,8 +14,8 @@ returns-in-Ok c =
     let history = c.args.self.now.history in
     let s = shell_at bank c.args.shell.now in
     let told =
-    principle_told bank history c.entries.result.now s c.in_ok-shells.shells.items c.as_slice.result.now c.in_ok-used.used.items c.as_slice-2.result.now None c.requires.stands.history c.entries.ensures
-    c.as_slice.ensures.value c.in_ok-shells.ensures.shells c.as_slice-2.ensures.value c.in_ok-used.ensures.used c.in-Ok.ensures.refusal in
+    principle_told bank history s c.shells.result.now c.in_ok-used.used.items c.as_slice.result.now None
+    (c.shells.ensures.logic bank c.requires.stands.history) c.as_slice.ensures.value c.in_ok-used.ensures.used c.in-Ok.ensures.refusal in
     IfOk-weaker c.room_answer.result _ _ (λ answer is. is ∙ sym (room_left (events_at bank history) s told)) c.room_answer.ensures
 
 pub returns : goal.returns
@@ -25,6 +25,6 @@ returns c =
     let s = shell_at bank c.args.shell.now in
     let why = refusal_at bank c.in-Err.fault in
     let told =
-    principle_told bank history c.entries.result.now s c.in_ok-shells.shells.items c.as_slice.result.now c.in_ok-used.used.items c.as_slice-2.result.now (Some why) c.requires.stands.history c.entries.ensures
-    c.as_slice.ensures.value c.in_ok-shells.ensures.shells c.as_slice-2.ensures.value c.in_ok-used.ensures.used c.in-Err.ensures.refusal in
+    principle_told bank history s c.shells.result.now c.in_ok-used.used.items c.as_slice.result.now (Some why)
+    (c.shells.ensures.logic bank c.requires.stands.history) c.as_slice.ensures.value c.in_ok-used.ensures.used c.in-Err.ensures.refusal in
     ap (λ (a : Answer). Some a) c.in_ok-shell_refused-in-Err.ensures ∙ sym (refused_so (events_at bank history) s why told)

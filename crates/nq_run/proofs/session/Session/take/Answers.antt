@@ -6,7 +6,7 @@ use Rattle.nq_event.specs.EventsAt.{event_at}
 use Rattle.nq_run.specs.Sessions.{TakesEvent}
 use Rattle.nq_run.specs.declared.session.Session.{Session}
 use Rattle.nq_run.proofs.SessionLemmas.{mark_before, same_history, stands_grown}
-use Rattle.nq_run.proofs.TakingLemmas.{refused_form, spelled_here, takes_form}
+use Rattle.nq_run.proofs.TakingLemmas.{event_stands, refused_form, spelled_here, takes_form}
 use Rattle.nq_run.proofs.session.Session.take.Goals as goal
 
 pub take_event-requires-clause-stands : goal.take_event-requires-clause-stands
@@ -14,6 +14,10 @@ take_event-requires-clause-stands g c = stands_grown c.args.self c.parse_event.n
 
 pub take_event-requires-clause-mark : goal.take_event-requires-clause-mark
 take_event-requires-clause-mark g c = mark_before c.args.self c.parse_event.new.bank c.mark-mark.result c.requires.stands c.in-Ok.ensures.grows c.mark-mark.ensures
+
+pub take_event-requires-clause-event : goal.take_event-requires-clause-event
+take_event-requires-clause-event g c =
+    event_stands c.args.self c.parse_event.new.bank (tree c.args.form.now) c.in-Ok.event c.args.logging c.requires.stands c.in-Ok.ensures.grows c.in-Ok.ensures.event
 
 pub take_event-requires-clause-spelled : goal.take_event-requires-clause-spelled
 take_event-requires-clause-spelled g c =
