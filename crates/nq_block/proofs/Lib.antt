@@ -9,6 +9,7 @@ pub mod Waiting
 pub mod Stepping
 pub mod Places
 pub mod RuleLemmas
+pub mod SumLemmas
 pub mod TermLemmas
 pub mod InductionLemmas
 pub mod ClosingLines

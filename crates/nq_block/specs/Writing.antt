@@ -1,5 +1,5 @@
 -- A block in writing: which lines it has so far, and which terms have numbers.
-use Rattle.std.specs.Prelude.{◌≡◌, ℕ, codes, ◌^◌, ◌<◌, ◌≤◌, ◌+◌, nat_eq, Bool, true, ◌||◌, is_some, IsSome, unwrap_or, Option, Some, None, Result, OnOk, List, [], ◌∷◌, ◌++◌, map, length, take}
+use Rattle.std.specs.Prelude.{◌≡◌, ℕ, codes, ◌^◌, ◌<◌, ◌≤◌, ◌+◌, nat_eq, Bool, true, false, ◌||◌, is_some, IsSome, unwrap_or, Option, Some, None, Result, OnOk, List, [], ◌∷◌, ◌++◌, map, length, take}
 use Rattle.std.specs.declared.hash.FoldHasher.{FoldHasher}
 use Rattle.std.specs.declared.hash.BuildHasherDefault.{BuildHasherDefault}
 use Rattle.std.specs.declared.alloc.AllocError.{AllocError}
@@ -7,6 +7,9 @@ use Rattle.std.specs.HashMap.{get, HashMap}
 use Rattle.nq_logtext.specs.Lines as grammar
 use Rattle.nq_logtext.specs.Lines.{IsSpellable, spelling}
 use Rattle.nq_logtext.specs.declared.line.Binding.{Binding}
+use Rattle.nq_logtext.specs.declared.line.Multiple.{Multiple}
+use Rattle.nq_logtext.specs.declared.line.Sign.{Sign}
+use Rattle.nq_logtext.specs.declared.line.Sign.TheVariants.{Plus, Minus}
 use Rattle.nq_logtext.specs.declared.word.Word.TheVariants as word
 use Rattle.nq_logic.specs.Terms.{Name, Term, Variable, Substitution, Each}
 use Rattle.nq_logic.specs.Histories.{History, Part}
@@ -19,6 +22,7 @@ use Rattle.nq_bank.specs.Shells.{texts_at}
 use Rattle.nq_clause.specs.declared.substitution.Pair.{Pair}
 use Rattle.nq_proof.specs.Clauses.{Clause}
 use Rattle.nq_proof.specs.Rules.{Hypothesis, CaseLines, Rule, conclusion, pair_terms}
+use Rattle.nq_linear_rule.specs.declared.summand.Summand.{Summand}
 use Rattle.nq_history.specs.declared.entry.Entry.{Entry}
 use Rattle.nq_history.specs.Events.{events_at}
 use Rattle.nq_kernel.specs.declared.rule.Line.{Line}
@@ -155,6 +159,17 @@ pub record IsPairWritten (w : Writer) (pair : Pair) : Type 0 where
 
 abbrev pub binding_in : Writer → Pair → Binding
 binding_in w pair = record { variable = number_in w.variables pair.variable.0; term = number_in w.terms pair.term.0 }
+
+abbrev pub IsSummandWritten : Writer → Summand → Type 0
+IsSummandWritten w s = IsWritten w s.literal
+
+-- the sign of an order
+abbrev pub sign_if : Bool → Sign
+sign_if true = Plus
+sign_if false = Minus
+
+abbrev pub multiple_in : Writer → Summand → Multiple
+multiple_in w s = record { factor = s.factor; term = number_in w.terms s.literal.0; sign = sign_if s.forwards }
 
 -- what has a number keeps one
 pub record Keeps (old new : Writer) : Type 0 where

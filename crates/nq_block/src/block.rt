@@ -44,6 +44,7 @@ impl Writer {
             Rule::SplitSecond(line, literal) => self.second_split(*line, *literal),
             Rule::NotNot(line, literal) => self.without_nots(*line, *literal),
             Rule::Value(t) => self.valued(bank, *t),
+            Rule::Linear(summands) => self.summed(bank, summands.as_slice()),
             Rule::Induct(claim, measure, ordinal, base, cases) => {
                 self.induction(bank, *claim, *measure, *ordinal, *base, cases.as_slice())
             }

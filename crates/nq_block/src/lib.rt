@@ -22,6 +22,7 @@ mod terms;
 mod bindings;
 mod inductions;
 mod rules;
+mod sums;
 
 // the closing lines
 mod closings;

@@ -83,6 +83,7 @@ fn rule_stands(bank: &Bank, rule: &Rule) -> bool
         Rule::SplitSecond(_, _) => true,
         Rule::NotNot(_, _) => true,
         Rule::Value(t) => stands(bank, *t),
+        Rule::Linear(_) => false,
         Rule::Induct(_, _, _, _, _) => false,
     }
 }

@@ -20,12 +20,12 @@ use Rattle.nq_check.specs.declared.verdict.Checked.TheVariants as checked
 use Rattle.nq_check.specs.declared.verdict.Refusal.{Refusal}
 use Rattle.nq_check.specs.Contexts.{state_of}
 use Rattle.nq_check.specs.Texts.{claims_text, verdict_text}
-use Rattle.nq_check.specs.Outcomes.{log_limit, reason_of, Answers, answer_text, IsUnfinished, IsChecked, IsUnread, IsTooLong, IsCutOff, Checks}
+use Rattle.nq_check.specs.Outcomes.{log_limit, reason_of, Answers, answer_text, IsUnfinished, IsChecked, IsUnread, IsTooLong, IsCutInClaims, IsCutInVerdict, IsCutOff, Checks}
 use Rattle.nq_check.specs.Passing.{place_at, place_of, reading_from, IsReady, Passed, Stopped, Interrupted, Waits}
 use Rattle.nq_check.specs.Checking.{Progress, EndsSo, IsJudged, Breaks}
 use Rattle.nq_check.specs.declared.verdict.CheckFault.{CheckFault}
 use Rattle.nq_check.specs.declared.verdict.CheckFault.TheVariants as fault
-use Rattle.nq_check.proofs.PassingLemmas.{take_past, part_after, no_part, Passed-start, Passed-trans, Passed-more, Passed-reading, Stopped-after, Interrupted-after}
+use Rattle.nq_check.proofs.PassingLemmas.{take_past, no_part, Passed-start, Passed-trans, Passed-more, Passed-reading, Stopped-after, Interrupted-after}
 
 -- a reader at the start reads the text
 module _ (start : Checker) (first : place_of start ≡ AtStart) where
@@ -165,12 +165,13 @@ module _ (start : Checker) (first : place_of start ≡ AtStart) where
         let all = Passed-more start c p.taken hand piece held written p.passed in
         let gone : Consumes left later (p.taken ++ piece) = Consumes-trans left now later p.taken piece p.consumed more in
         let part = Interrupted-after start c (p.taken ++ piece) (hand ++ piece) held written after all i in
-        record {
+        let cut : IsCutInClaims built_step left held after = record {
           reading = reading_by built_step (p.taken ++ piece);
           read = of_text left later (p.taken ++ piece) _ gone (λ rest. (p.taken ++ piece, rest, refl, refl));
-          text = inl (subst (λ (r : Reading). AppendsPart held after (claims_text r.claims)) (sym (whole (p.taken ++ piece))) part.text);
+          text = subst (λ (r : Reading). AppendsPart held after (claims_text r.claims)) (sym (whole (p.taken ++ piece))) part.text;
           sound = sound (p.taken ++ piece);
-        }
+        } in
+        inl cut
 
     -- the next piece goes on
     pub goes_on : (later : Option (List ℕ)) (d : Checker) (rest piece : List ℕ) (after : Option (List ℕ)) → Consumes now later piece → count + length piece ≤ log_limit →
@@ -222,18 +223,19 @@ judged_checked left held now after answer j wrote = record {
   sound = j.sound;
 }
 
-if_some : {A : Type 0} (o : Option A) (P Q : A → Type 0) → ((a : A) → P a → Q a) → IfSome o P → IfSome o Q
-if_some None P Q each h = tt
-if_some (Some a) P Q each h = each a h
-
 pub judged_cut : (left held now after : Option (List ℕ)) (answer : Checked) → IsJudged left held now answer → AppendsPart now after (answer_text answer) → IsCutOff built_step left held after
-judged_cut left held now after answer j wrote = record {
-  reading = j.reading;
-  read = if_some left (λ text. reading_by built_step text ≡ j.reading) _ (λ text e. (text, [], sym (append-nil text), e)) j.read;
-  text = inr (part_after held now after (claims_text j.reading.claims) (verdict_text (length j.reading.claims) j.reading.ending) j.text
-      (subst (AppendsPart now after) (sym (verdict_is (length j.reading.claims) j.reading.ending answer j.answers)) wrote));
-  sound = j.sound;
-}
+judged_cut left held now after answer j wrote =
+    let verdict = verdict_text (length j.reading.claims) j.reading.ending in
+    let part : AppendsPart now after verdict = subst (AppendsPart now after) (sym (verdict_is (length j.reading.claims) j.reading.ending answer j.answers)) wrote in
+    let cut : IsCutInVerdict built_step left held after = record {
+      reading = j.reading;
+      read = j.read;
+      within = j.within;
+      part = part.0;
+      text = Appends-trans held now after (claims_text j.reading.claims) (take part.0 verdict) j.text part.1;
+      sound = j.sound;
+    } in
+    inr cut
 
 -- what is cut off broke neither in the source nor at the limit
 pub broken : {T : Type 0} (left held after : Option (List ℕ)) (r : Result T CheckFault) (e : CheckFault) → r ≡ Err e → (r ≡ Err fault.Read → ⊥) → (r ≡ Err fault.TooLong → ⊥) → IsCutOff built_step left held after → Breaks left held after e
@@ -244,12 +246,14 @@ broken left held after r fault.Memory is no_read no_length cut = cut
 
 -- nothing was read, and nothing written
 pub nothing_yet : (left held : Option (List ℕ)) → ((text : List ℕ) → ClaimsHold [] (reading_by built_step text).claims) → IsCutOff built_step left held held
-nothing_yet left held sound = record {
-  reading = reading_by built_step [];
-  read = any left;
-  text = inl (no_part held (claims_text (reading_by built_step []).claims));
-  sound = sound [];
-}
+nothing_yet left held sound =
+    let cut : IsCutInClaims built_step left held held = record {
+      reading = reading_by built_step [];
+      read = any left;
+      text = no_part held (claims_text (reading_by built_step []).claims);
+      sound = sound [];
+    } in
+    inl cut
   where
     any : (left : Option (List ℕ)) → IfSome left (λ text. (taken : List ℕ) × (more : List ℕ) × (text ≡ taken ++ more) × (reading_by built_step taken ≡ reading_by built_step []))
     any None = tt

@@ -8,6 +8,7 @@ mod DropLemmas
 mod CaseLemmas
 mod ShellLemmas
 mod NumberLemmas
+mod SumLemmas
 mod CallLemmas
 mod PassingLemmas
 mod CheckingLemmas

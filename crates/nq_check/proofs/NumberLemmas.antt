@@ -27,7 +27,7 @@ no_front (Some ys) = refl
 pub front_only : {X : Type 0} (xs : List X) → with_front xs (Some []) ≡ Some xs
 front_only xs = ap Some (append-nil xs)
 
-by_rest : {X : Type 0} (xs : List X) (t : X) (o : Option (List X)) → with_front xs (o >>= λ ts. Some (t ∷ ts)) ≡ with_front (xs ++ (t ∷ [])) o
+pub by_rest : {X : Type 0} (xs : List X) (t : X) (o : Option (List X)) → with_front xs (o >>= λ ts. Some (t ∷ ts)) ≡ with_front (xs ++ (t ∷ [])) o
 by_rest xs t None = refl
 by_rest xs t (Some ts) = ap Some (sym (append_assoc xs (t ∷ []) ts))
 

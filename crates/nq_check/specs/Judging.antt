@@ -5,7 +5,7 @@ use Rattle.nq_logtext.specs.Lines.{Line}
 use Rattle.nq_logtext.specs.declared.word.Word.{Word}
 use Rattle.nq_logtext.specs.declared.word.Word.TheVariants as word
 use Rattle.nq_proof.specs.Rules.{Rule}
-use Rattle.nq_log.specs.RuleLines.{taut_rule, weaken_rule, cut_rule, instance_rule, reflexive_rule, replace_rule, join_rule, split_rule, not_not_rule, value_rule}
+use Rattle.nq_log.specs.RuleLines.{taut_rule, weaken_rule, cut_rule, instance_rule, reflexive_rule, replace_rule, join_rule, split_rule, not_not_rule, value_rule, linear_rule}
 use Rattle.nq_log.specs.States.{Block, State, Claim, Step, Continues, Claims, Ends, start_of, after_claim}
 use Rattle.nq_check.specs.declared.context.Context.{Context}
 use Rattle.nq_check.specs.declared.judged.Judged.{Judged}
@@ -46,6 +46,7 @@ rule_of_word block fields word.Join = join_rule block fields
 rule_of_word block fields word.Split = split_rule fields
 rule_of_word block fields word.NotNot = not_not_rule fields
 rule_of_word block fields word.Value = value_rule block fields
+rule_of_word block fields word.Linear = linear_rule block fields
 rule_of_word block fields w = None
 
 abbrev pub rule_by : Block → Line → Option Rule

@@ -3,6 +3,7 @@ pub mod Outcomes
 pub mod Functions
 pub mod Contexts
 pub mod Pairs
+pub mod Sums
 pub mod Cases
 pub mod Judging
 pub mod Claims

@@ -7,7 +7,7 @@ use Rattle.nq_log.specs.States.{State, Step}
 use Rattle.nq_log.specs.Logs.{Reason, Ending, Right, Wrong, Reading, reading_by}
 use Rattle.nq_log.specs.Logs as logs
 use Rattle.nq_log.specs.Laws.{ClaimsHold}
-use Rattle.nq_check.specs.Texts.{accepted_text, refused_text, claims_text, output_of}
+use Rattle.nq_check.specs.Texts.{accepted_text, refused_text, claims_text, verdict_text, output_of}
 use Rattle.nq_check.specs.declared.verdict.Refusal.{Refusal}
 use Rattle.nq_check.specs.declared.verdict.Refusal.TheVariants as refusal
 use Rattle.nq_check.specs.declared.verdict.Checked.{Checked}
@@ -72,12 +72,26 @@ module _ (next : State → Line → Option Step) (left held now : Option (List �
     pub text : Appends held now (claims_text reading.claims)
     pub sound : ClaimsHold [] reading.claims
 
-  -- a first part of the lines of a first part of the text, or of its whole output, was written
-  pub record IsCutOff : Type 0 where
+  -- a first part of the lines of the claims before a wrong line, or before a place that was not read yet, was written
+  pub record IsCutInClaims : Type 0 where
     pub reading : Reading
     pub read : IfSome left (λ text. (taken : List ℕ) × (more : List ℕ) × (text ≡ taken ++ more) × (reading_by next taken ≡ reading))
-    pub text : AppendsPart held now (claims_text reading.claims) ⊎ AppendsPart held now (output_of reading)
+    pub text : AppendsPart held now (claims_text reading.claims)
     pub sound : ClaimsHold [] reading.claims
+
+  -- The text has this reading, which shows within the limit. The lines of all its claims were written, and a first part of
+  -- the verdict.
+  pub record IsCutInVerdict : Type 0 where
+    pub reading : Reading
+    pub read : IfSome left (λ text. reading_by next text ≡ reading)
+    pub within : IfSome left (λ text. reading_by next (take log_limit text) ≡ reading)
+    pub part : ℕ
+    pub text : Appends held now (claims_text reading.claims ++ take part (verdict_text (length reading.claims) reading.ending))
+    pub sound : ClaimsHold [] reading.claims
+
+  -- the lines of the claims were not all written, or the verdict was not
+  abbrev pub IsCutOff : Type 0
+  IsCutOff = IsCutInClaims ⊎ IsCutInVerdict
 
   -- what stands after each answer
   abbrev pub Checks : Result Checked CheckFault → Type 0

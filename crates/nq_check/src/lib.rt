@@ -24,6 +24,7 @@ mod numbers;
 mod rule_lines;
 mod rules;
 mod shell_lines;
+mod sums;
 mod term_lines;
 mod texts;
 

@@ -2,6 +2,7 @@ ghost use Rattle.std.specs.Prelude.{◌≤◌};
 
 mod definitions;
 mod shells;
+mod sums;
 
 use super::*;
 use nq_io::{MemSink, MemSource};

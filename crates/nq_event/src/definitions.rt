@@ -48,7 +48,7 @@ fn definition_by<'a>(entry: &'a Entry, name: Sym) -> Option<Definition<'a>>
 }
 
 /// The first of these entries that is a definition of this name.
-fn definition_among<'a>(bank: &Bank, entries: &'a [Entry], name: Sym) -> Option<Definition<'a>>
+pub fn definition_among<'a>(bank: &Bank, entries: &'a [Entry], name: Sym) -> Option<Definition<'a>>
     requires entries { All (EntryStands bank.now) entries.now }
     requires name { IsNamed bank.now name }
     ensures is { option_map (definition_at bank.now) result ≡ definition_among (events_definitions (all_events_at bank.now entries.now)) (text_at bank.now name) }

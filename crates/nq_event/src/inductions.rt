@@ -81,7 +81,7 @@ fn add_measured(
 }
 
 /// The arguments in the places of the formals that stand in a measure.
-fn measured(
+pub fn measured(
     bank: &Bank,
     formals: &[Sym],
     arguments: &[TermId],
@@ -142,7 +142,7 @@ fn is_apart(bank: &Bank, t: TermId, others: &[TermId]) -> bool
 }
 
 /// Are the terms variables, none of which stands twice?
-fn are_distinct_variables(bank: &Bank, terms: &[TermId]) -> bool
+pub fn are_distinct_variables(bank: &Bank, terms: &[TermId]) -> bool
     requires { All (Stands bank.now) terms.now }
     ensures { result ≡ are_distinct_names (names_of (terms_at bank.now terms.now)) }
 {

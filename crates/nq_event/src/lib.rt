@@ -61,9 +61,11 @@ mod history_events;
 mod outline;
 mod shell_events;
 
+pub use definitions::{Definition, definition_among, definition_called};
 pub use event::{Event, Measure};
 pub use fault::EventFault;
 pub use hints::{HintKind, HintOutline};
+pub use inductions::{are_distinct_variables, measured};
 pub use instances::{InstanceOutline, PairOutline};
 pub use outline::{Outline, outline_of};
 pub use parse::parse_event;

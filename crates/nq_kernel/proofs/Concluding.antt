@@ -10,13 +10,14 @@ use Rattle.nq_proof.specs.Clauses.{Clause, without, distinct, has_opposite, lite
 use Rattle.nq_proof.specs.Paths.{IfParts, if_parts, under_two_nots}
 use Rattle.nq_proof.specs.Linear.{and_then}
 use Rattle.nq_proof.specs.Rules as tree
-use Rattle.nq_proof.specs.Rules.{conclusion, given, when, event_term, is_substitution}
+use Rattle.nq_proof.specs.Rules.{conclusion, given, when, event_term, is_substitution, is_refuted}
 use Rattle.nq_proof.specs.Rows.{axiom_clause}
 use Rattle.nq_proof.specs.Values.{value_of}
 use Rattle.nq_rule.specs.Results.{join_of, placed_of, replacement_of, first_split_of, second_split_of, not_not_of}
 use Rattle.nq_rule.specs.Places.{part_at}
 use Rattle.nq_rule.proofs.ReplacingLemmas.{replacement_test}
 use Rattle.nq_value_rule.specs.Equations.{value_equation}
+use Rattle.nq_linear_rule.specs.Sums.{linear_clause}
 use Rattle.nq_kernel.specs.declared.rule.Rule.{Rule}
 use Rattle.nq_kernel.specs.declared.rule.Line.{Line}
 use Rattle.nq_history.specs.declared.entry.Entry.{Entry}
@@ -150,6 +151,12 @@ module _ (bank : Content) (history : List Entry) (log : List Line) (rule : Rule)
 
   pub value_test : (t : Term) → rule_at bank rule ≡ tree.Value t → is_some (value_of t) ≡ is_some (conclusion_at bank history log rule)
   value_test t e = is_some-some (value_of t) (λ v. equal_term t v ∷ []) ∙ sym (ap is_some (as_tree (tree.Value t) e))
+
+  pub linear_is : (summands : List tree.Summand) → rule_at bank rule ≡ tree.Linear summands → conclusion_at bank history log rule ≡ linear_clause summands
+  linear_is summands e = as_tree (tree.Linear summands) e
+
+  pub linear_test : (summands : List tree.Summand) → rule_at bank rule ≡ tree.Linear summands → is_refuted summands ≡ is_some (conclusion_at bank history log rule)
+  linear_test summands e = is_some-when (is_refuted summands) (distinct (map (λ s. s.literal) summands)) ∙ sym (ap is_some (as_tree (tree.Linear summands) e))
 
   -- what a rule that cites one line gives
   pub one_test : {X : Type 0} (l : ℕ) (r : tree.Rule) (next : Clause → Option Clause) (test : Clause → Option X) → rule_at bank rule ≡ r → conclusion (events_at bank history) (clause_at bank log) r ≡ given (clause_at bank log l) next →

@@ -10,7 +10,7 @@ use Rattle.nq_bank.proofs.Standing.{stand_grown}
 use Rattle.nq_proof.specs.Rules as tree
 use Rattle.nq_proof.specs.Rules.{conclusion}
 use Rattle.nq_kernel.specs.declared.rule.Rule.{Rule}
-use Rattle.nq_kernel.specs.declared.rule.Rule.TheVariants.{Taut, AxiomRow, EventTerm, Weaken, Cut, Instance, Reflexive, Replace, Join, SplitFirst, SplitSecond, NotNot, Value, Induct}
+use Rattle.nq_kernel.specs.declared.rule.Rule.TheVariants.{Taut, AxiomRow, EventTerm, Weaken, Cut, Instance, Reflexive, Replace, Join, SplitFirst, SplitSecond, NotNot, Value, Linear, Induct}
 use Rattle.nq_kernel.specs.declared.rule.Line.{Line}
 use Rattle.nq_history.specs.declared.entry.Entry.{Entry}
 use Rattle.nq_kernel.specs.Lines.{ids_at}
@@ -18,6 +18,7 @@ use Rattle.nq_history.specs.Events.{events_at, HistoryStands}
 use Rattle.nq_history.proofs.HistoryLemmas.{events_at-grown, history_grown}
 use Rattle.nq_rule.specs.Sides.{side_of}
 use Rattle.nq_rule.specs.Inductions.{cases_at}
+use Rattle.nq_linear_rule.proofs.GrownSums.{summands_at-grown, literals_grown}
 use Rattle.nq_rule.proofs.GrownLemmas.{cases_at-grown, cases_stand}
 use Rattle.nq_kernel.specs.Meaning.{rule_at, RuleStands, IsOver, clause_at, conclusion_at}
 use Rattle.nq_kernel.specs.Growing.{Fits}
@@ -44,6 +45,7 @@ module _ (old new : Content) (h : Grows old new) where
   rule_at-grown (SplitSecond line place) k = refl
   rule_at-grown (NotNot line place) k = refl
   rule_at-grown (Value t) k = ap tree.Value (term_at-grown old new t h k)
+  rule_at-grown (Linear summands) k = ap tree.Linear (summands_at-grown old new summands.items h k)
   rule_at-grown (Induct claim measure ordinal base cases) k =
       let p = term_at-grown old new claim h k.claim in
       let m = term_at-grown old new measure h k.measure in
@@ -66,6 +68,7 @@ module _ (old new : Content) (h : Grows old new) where
   RuleStands-grown (SplitSecond line place) k = tt
   RuleStands-grown (NotNot line place) k = tt
   RuleStands-grown (Value t) k = Stands-grown old new t h k
+  RuleStands-grown (Linear summands) k = literals_grown old new summands.items h k
   RuleStands-grown (Induct claim measure ordinal base cases) k = record { claim = Stands-grown old new claim h k.claim; measure = Stands-grown old new measure h k.measure; cases = cases_stand old new h cases.items k.cases }
 
   pub clause_at-grown : (log : List Line) (n : ℕ) → IsOver old log → clause_at new log n ≡ clause_at old log n

@@ -13,8 +13,9 @@ use Rattle.nq_rule.specs.Conclusions.{Concludes}
 use Rattle.nq_rule.specs.declared.induction.CaseOfInduction.{CaseOfInduction}
 use Rattle.nq_rule.specs.Inductions.{cases_at, CaseStands}
 use Rattle.nq_rule.specs.Sides.{side_of}
+use Rattle.nq_linear_rule.specs.Sums.{summands_at, LiteralsStand}
 use Rattle.nq_kernel.specs.declared.rule.Rule.{Rule}
-use Rattle.nq_kernel.specs.declared.rule.Rule.TheVariants.{Taut, AxiomRow, EventTerm, Weaken, Cut, Instance, Reflexive, Replace, Join, SplitFirst, SplitSecond, NotNot, Value, Induct}
+use Rattle.nq_kernel.specs.declared.rule.Rule.TheVariants.{Taut, AxiomRow, EventTerm, Weaken, Cut, Instance, Reflexive, Replace, Join, SplitFirst, SplitSecond, NotNot, Value, Linear, Induct}
 use Rattle.nq_kernel.specs.declared.rule.Line.{Line}
 use Rattle.nq_kernel.specs.Lines.{ids_at}
 
@@ -33,6 +34,7 @@ rule_at bank (SplitFirst line place) = tree.SplitFirst line place
 rule_at bank (SplitSecond line place) = tree.SplitSecond line place
 rule_at bank (NotNot line place) = tree.NotNot line place
 rule_at bank (Value t) = tree.Value (term_at bank t)
+rule_at bank (Linear summands) = tree.Linear (summands_at bank summands.items)
 rule_at bank (Induct claim measure ordinal base cases) = tree.Induct (term_at bank claim) (term_at bank measure) ordinal base (cases_at bank cases.items)
 
 -- the ids and names of an induction stand in the bank
@@ -56,6 +58,7 @@ RuleStands bank (SplitFirst line place) = ⊤
 RuleStands bank (SplitSecond line place) = ⊤
 RuleStands bank (NotNot line place) = ⊤
 RuleStands bank (Value t) = Stands bank t
+RuleStands bank (Linear summands) = LiteralsStand bank summands.items
 RuleStands bank (Induct claim measure ordinal base cases) = InductionStands bank claim measure cases.items
 
 -- whether the rule is the row of an axiom

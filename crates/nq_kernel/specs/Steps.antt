@@ -3,7 +3,7 @@ use Rattle.std.specs.Prelude.{ℕ, ◌+◌, ◌*◌, max, List, [], ◌∷◌, l
 use Rattle.nq_rule.specs.declared.induction.InductionStep.{InductionStep}
 use Rattle.nq_rule.specs.declared.induction.CaseOfInduction.{CaseOfInduction}
 use Rattle.nq_kernel.specs.declared.rule.Rule.{Rule}
-use Rattle.nq_kernel.specs.declared.rule.Rule.TheVariants.{Taut, AxiomRow, EventTerm, Weaken, Cut, Instance, Reflexive, Replace, Join, SplitFirst, SplitSecond, NotNot, Value, Induct}
+use Rattle.nq_kernel.specs.declared.rule.Rule.TheVariants.{Taut, AxiomRow, EventTerm, Weaken, Cut, Instance, Reflexive, Replace, Join, SplitFirst, SplitSecond, NotNot, Value, Linear, Induct}
 
 -- the steps of the HYP lines of a case: each has a line's number, and two for each pair
 abbrev pub steps_of_hypotheses : List InductionStep → ℕ
@@ -34,4 +34,5 @@ steps_of (SplitFirst line place) = 4
 steps_of (SplitSecond line place) = 4
 steps_of (NotNot line place) = 3
 steps_of (Value t) = 2
+steps_of (Linear summands) = 1 + 2 * length summands.items
 steps_of (Induct claim measure ordinal base cases) = 5 + steps_of_cases cases.items

@@ -24,6 +24,7 @@ use crate::rule::{Line, Rule};
 use nq_bank::{Bank, BankFault, TermId};
 use nq_clause::Pair;
 use nq_history::History;
+use nq_linear_rule::{is_refuted, linear_clause};
 use nq_rule::{
     Branches, CaseOfInduction, are_distinct_variables, branches_at_literal, can_replace_at,
     clause_in_place, clause_of, clause_of_one, contains_opposite, cut_clause, first_branch_clause,
@@ -158,6 +159,7 @@ impl Log {
             Rule::SplitSecond(line, place) => self.branches_of(bank, *line, *place).is_some(),
             Rule::NotNot(line, place) => self.under_literal(bank, *line, *place).is_some(),
             Rule::Value(t) => has_value(bank, *t),
+            Rule::Linear(summands) => is_refuted(bank, summands.as_slice())?,
             Rule::Induct(claim, measure, ordinal, base, cases) => {
                 self.is_induction(bank, *claim, *measure, *ordinal, *base, cases.as_slice())?
             }
@@ -329,6 +331,7 @@ impl Log {
             Rule::SplitSecond(line, place) => self.split_second(bank, *line, *place),
             Rule::NotNot(line, place) => self.without_nots(bank, *line, *place),
             Rule::Value(t) => value_clause(bank, *t),
+            Rule::Linear(summands) => linear_clause(bank, summands.as_slice()),
             Rule::Induct(claim, _, _, _, _) => clause_of_one(bank, *claim),
         }
     }

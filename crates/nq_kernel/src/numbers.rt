@@ -4,6 +4,7 @@ ghost use Rattle.nq_kernel.specs.Steps.{path_numbers, steps_of, steps_of_hypothe
 
 use crate::rule::Rule;
 use nq_clause::Pair;
+use nq_linear_rule::Summand;
 use nq_rule::{CaseOfInduction, InductionStep};
 
 /// Two steps, and two for each pair.
@@ -35,6 +36,13 @@ fn steps_of_case_lines(cases: &[CaseOfInduction]) -> u128
     sum
 }
 
+/// Two steps for each literal of a sum, and one.
+fn steps_of_sum(summands: &[Summand]) -> u128
+    ensures { result ≡ min (1 + 2 * length summands.now) (2 ^ 128 - 1) }
+{
+    (summands.len() as u128).saturating_mul(2).saturating_add(1)
+}
+
 /// How many numbers spell a path.
 fn numbers_of_path(path: &[u64]) -> u128
     ensures numbers { result ≡ path_numbers path.now }
@@ -61,6 +69,7 @@ pub fn steps_of_line(rule: &Rule) -> u128
         Rule::SplitSecond(_, _) => 4,
         Rule::NotNot(_, _) => 3,
         Rule::Value(_) => 2,
+        Rule::Linear(summands) => steps_of_sum(summands.as_slice()),
         Rule::Induct(_, _, _, _, cases) => steps_of_case_lines(cases.as_slice()).saturating_add(5),
     }
 }

@@ -1,5 +1,6 @@
 use nq_bank::{Sym, TermId};
 use nq_clause::Pair;
+use nq_linear_rule::Summand;
 use nq_rule::{Branches, CaseOfInduction, Side};
 
 /// A rule line of the log. A line is cited by its number, and a literal of it by its place, both from 1.
@@ -34,6 +35,8 @@ pub enum Rule {
     NotNot(u64, u64),
     /// VALUE: `(EQUAL t v)`, where t is a call on values, and v its value by the table of values.
     Value(TermId),
+    /// LINEAR: these terms, each so many times, where the sum of their expressions is negative.
+    Linear(Vec<Summand>),
     /// INDUCT: the claim, by its measure, with the line that says that the measure is an ordinal, the line of the base case,
     /// and the cases.
     Induct(TermId, TermId, u64, u64, Vec<CaseOfInduction>),

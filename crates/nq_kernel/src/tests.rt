@@ -4,6 +4,7 @@ ghost use Rattle.nq_bank.specs.Content.{Stands};
 ghost use Rattle.nq_clause.specs.Substitution.{PairStands};
 ghost use Rattle.nq_rule.specs.Inductions.{CaseStands, HypothesisStands};
 ghost use Rattle.nq_history.specs.Events.{HistoryStands};
+ghost use Rattle.nq_linear_rule.specs.Sums.{LiteralsStand};
 ghost use Rattle.nq_kernel.specs.Growing.{WorkStands};
 ghost use Rattle.nq_kernel.specs.Meaning.{RuleStands};
 
@@ -13,7 +14,9 @@ use super::*;
 use nq_bank::{Bank, Sym, TermId, ground, ground_name};
 use nq_clause::Pair;
 use nq_history::History;
+use nq_linear_rule::Summand;
 use nq_rule::{CaseOfInduction, InductionStep};
+use std::alloc::{AllocError, Global};
 use std::process::Abort;
 use std::test::Fail;
 
@@ -72,6 +75,12 @@ fn cases_stand(bank: &Bank, cases: &[CaseOfInduction]) -> bool
     cases.iter().all(|c| case_stands(bank, c))
 }
 
+fn literals_stand(bank: &Bank, summands: &[Summand]) -> bool
+    ensures { result ≡ true → LiteralsStand bank.now summands.now }
+{
+    summands.iter().all(|s| stands(bank, s.literal))
+}
+
 /// Do the names and terms of a rule stand?
 fn rule_stands(bank: &Bank, rule: &Rule) -> bool
     ensures { result ≡ true → RuleStands bank.now rule.now }
@@ -92,6 +101,7 @@ fn rule_stands(bank: &Bank, rule: &Rule) -> bool
         Rule::SplitSecond(_, _) => true,
         Rule::NotNot(_, _) => true,
         Rule::Value(t) => stands(bank, *t),
+        Rule::Linear(summands) => literals_stand(bank, summands.as_slice()),
         Rule::Induct(claim, measure, _, _, cases) => {
             stands(bank, *claim) && stands(bank, *measure) && cases_stand(bank, cases.as_slice())
         }
@@ -173,6 +183,42 @@ fn a_call_on_values_equals_its_value(rt: HostRuntime) -> Result<(), Fail> {
     let sum = call(&rt, &mut work, &history, ground::PLUS, &[two, three])?;
     let want = call(&rt, &mut work, &history, ground::EQUAL, &[sum, five])?;
     line(&rt, &mut work, &history, Rule::Value(sum), &[want])
+}
+
+/// LINEAR of two literals, the first taken once and the second so many times.
+fn sum_of(alloc: Global, first: TermId, second: TermId, factor: u64) -> Result<Rule, AllocError> {
+    let summands = [
+        Summand {
+            factor: 1,
+            literal: first,
+            forwards: true,
+        },
+        Summand {
+            factor,
+            literal: second,
+            forwards: true,
+        },
+    ];
+    Ok(Rule::Linear(Vec::from_slice(alloc, &summands)?))
+}
+
+// (NOT (LESSP X 2)) gives 1 - X, and (LESSP X 2) gives X - 2.
+#[test]
+fn a_negative_sum_gives_its_literals(rt: HostRuntime) -> Result<(), Fail> {
+    let mut bank = Bank::new(rt.alloc())?;
+    let x = bank.name(b"X")?;
+    let variable = bank.var(x)?;
+    let two = bank.num(2)?;
+    let history = History::ground(&mut bank)?;
+    let mut work = work_over(bank, &history);
+    let less = call(&rt, &mut work, &history, ground::LESSP, &[variable, two])?;
+    let denied = call(&rt, &mut work, &history, ground::NOT, &[less])?;
+    let never = sum_of(rt.alloc(), denied, less, 0)?;
+    assert!(rt; !allowed(&rt, &work, &history, &never)?);
+    let twice = sum_of(rt.alloc(), denied, less, 2)?;
+    assert!(rt; !allowed(&rt, &work, &history, &twice)?);
+    let once = sum_of(rt.alloc(), denied, less, 1)?;
+    line(&rt, &mut work, &history, once, &[denied, less])
 }
 
 /// None of these terms has a line by VALUE.

@@ -11,7 +11,6 @@ use Rattle.nq_log.specs.Logs.{step}
 -- the first words whose lines are built
 abbrev pub is_built_word : Word → Bool
 is_built_word word.Function = false
-is_built_word word.Linear = false
 is_built_word word.Measure = false
 is_built_word w = true
 

@@ -14,3 +14,4 @@ pub mod LogLemmas
 pub mod TurnLemmas
 pub mod BuiltLemmas
 pub mod RunLemmas
+pub mod EndingLemmas

@@ -1,5 +1,5 @@
 -- The log of a run goes on by the block of one form.
-use Rattle.std.proofs.Common.{◌≡◌, ℕ, Bool, true, false, List, [], ◌∷◌, ◌++◌, length, Option, refl, sym, ap, ◌∙◌, subst, append_assoc, append-nil}
+use Rattle.std.proofs.Common.{◌≡◌, ◌<◌, ℕ, Bool, true, false, List, [], ◌∷◌, ◌++◌, length, Option, refl, sym, ap, ◌∙◌, subst, append_assoc, append-nil, arith}
 use Rattle.std.specs.Io.KnownBytes.{Appends, Keeps}
 use Rattle.std.proofs.KnownBytes.{Appends-nil, Appends-trans, Appends-kept}
 use Rattle.nq_logic.specs.Histories.{History}
@@ -9,7 +9,7 @@ use Rattle.nq_form.specs.Form.{Form, Forms, end, dotted, next, push}
 use Rattle.nq_log.specs.States.{Claim, Grounded, Adds, Undoes, after_claim}
 use Rattle.nq_logic.specs.Names.{before_event}
 use Rattle.nq_logic.proofs.Classes.{classes_change_nothing_law}
-use Rattle.std.specs.Prelude.{None, if◌then◌else◌}
+use Rattle.std.specs.Prelude.{None, Some, if◌then◌else◌}
 use Rattle.nq_block.specs.Blocks.{IsBlock}
 use Rattle.nq_block.specs.OpenLogs.{IsOpenLog}
 use Rattle.nq_block.proofs.OpenLaws.{block_follows_law}
@@ -19,7 +19,6 @@ use Rattle.nq_events.specs.Events.{Event, BootStrap, AddShell, Dcl, Defn, AddAxi
 use Rattle.nq_events.specs.Reading.{event_of}
 use Rattle.nq_events.specs.Effects.{defined, history_after}
 use Rattle.nq_run.specs.Outcome.{Answered, AreBlocks, GrowsWithin, IsLogOf, Logs, LogsWithin}
-use Rattle.nq_spelling.specs.Spelled.{IsSpelled, AreSpelled}
 use Rattle.nq_answers.specs.Steps.{Runs, after, after_event, is_taken}
 
 -- ---- what the log's sink gains
@@ -45,6 +44,10 @@ within_whole a b text appends = record { front = text; rest = []; whole = sym (a
 
 pub within_none : (a : Option (List ℕ)) (text : List ℕ) → GrowsWithin a a text
 within_none a text = record { front = []; rest = text; whole = refl; appends = Appends-nil a }
+
+pub kept_same : (a : Option (List ℕ)) → Keeps a a
+kept_same None = tt
+kept_same (Some a) = refl
 
 pub logs_after : (logging : Bool) (a b c : Option (List ℕ)) (t u : List ℕ) → Logs logging a b t → Logs logging b c u → Logs logging a c (t ++ u)
 logs_after true a b c t u first later = Appends-trans a b c t u first later
@@ -73,19 +76,6 @@ logs_within_none false a b t same = same
 pub no_logs : (logging : Bool) (a b : Option (List ℕ)) (t : List ℕ) → Logs logging a b t → logging ≡ false → b ≡ a
 no_logs true a b t logs off = cc
 no_logs false a b t logs off = logs
-
--- ---- names that a log can spell
-
--- the forms so far and the next one
-pub spelled_more : (old : History) (done : Forms) (reports : List Report) (mid : History) (form : Form) → Runs old done reports mid → AreSpelled (push done form)
-    → AreSpelled done × IsSpelled form
-spelled_more old end [] mid form runs spelled = (tt, spelled.0)
-spelled_more old end (r ∷ rs) mid form runs spelled = absurd runs
-spelled_more old (dotted f) [] mid form runs spelled = absurd runs
-spelled_more old (dotted f) (r ∷ rs) mid form runs spelled = absurd runs
-spelled_more old (next f fs) [] mid form runs spelled = absurd runs
-spelled_more old (next f fs) (r ∷ rs) mid form runs spelled =
-    let later = spelled_more (after old f r.answer) fs rs mid form runs.1 spelled.1 in ((spelled.0, later.0), later.1)
 
 -- ---- the claims
 
@@ -146,11 +136,14 @@ module _ (log : List ℕ) (claims : List Claim) (old : History) (block : List �
 -- the log with the block of one form more
 pub log_more : (done : Forms) (reports : List Report) (old new : History) (form : Form) (report : Report) (log block : List ℕ) → Runs [] done reports old
     → IsLogOf done reports old log → Answered form old new report true block → IsLogOf (push done form) (reports ++ report ∷ []) new (log ++ block)
-log_more done reports old new form report log block runs so_far answered spelled =
-    let both = spelled_more [] done reports old form runs spelled in
-    let before = so_far both.0 in
-    let is = answered.written refl before.1 both.1 in (
-      subst (λ (claims : List Claim). IsOpenLog (log ++ block) claims (without_classes new)) (sym (claims_more [] done reports old form report runs))
-          (open_event log (claims_from [] done reports) old block before.0 new (event_of old form) report.answer is answered.step.history),
-      answered.symbols before.1 both.1,
-    )
+log_more done reports old new form report log block runs before answered =
+    subst (λ (claims : List Claim). IsOpenLog (log ++ block) claims (without_classes new)) (sym (claims_more [] done reports old form report runs))
+    (open_event log (claims_from [] done reports) old block before new (event_of old form) report.answer (answered.written refl) answered.step.history)
+
+-- ---- what would follow on a log that is full
+
+-- a text that is not empty is a block of one claim
+pub one_block : (h : History) (claims : List Claim) (text : List ℕ) → AreBlocks h claims text → 0 < length text → (c : Claim) × (claims ≡ c ∷ []) × IsBlock h c text
+one_block h [] text blocks some = let none : length text ≡ 0 = ap length blocks in absurd (omega (arith, none, some))
+one_block h (c ∷ []) text block some = (c, refl, block)
+one_block h (c ∷ (d ∷ claims)) text blocks some = absurd blocks

@@ -1,6 +1,6 @@
 -- One form more in a run.
 use Rattle.std.proofs.Common.{◌≡◌, ◌+◌, ◌^◌, ◌≤◌, ◌<◌, ℕ, suc, Bool, true, false, List, [], ◌∷◌, ◌++◌, length, take, drop, Option, ap, sym, subst, ◌∙◌, refl, inl, inr, arith, append_assoc, append-nil, length-append}
-use Rattle.std.specs.Prelude.{Result, Ok, Err, OnErr, OnOk, IfOk, Some, None, IfSome, ⊤}
+use Rattle.std.specs.Prelude.{◌⊎◌, Result, Ok, Err, OnErr, OnOk, IfOk, Some, None, IfSome, ⊤}
 use Rattle.std.specs.Io.KnownBytes.{Appends, Keeps}
 use Rattle.std.proofs.KnownBytes.{Appends-kept, Appends-nil, Appends-trans}
 use Rattle.std.proofs.lemmas.List.{take-append-drop}
@@ -21,15 +21,11 @@ use Rattle.nq_comment.specs.declared.report.SyntaxFault.{SyntaxFault}
 use Rattle.nq_logic.specs.Classes.{without_classes}
 use Rattle.nq_block.specs.OpenLogs.{IsOpenLog, header_text, end_text}
 use Rattle.nq_block.proofs.OpenLaws.{log_begins_law}
-use Rattle.nq_block.proofs.SymbolLaws.{symbols_begin_law}
-use Rattle.nq_answers.specs.Claims.{claims_from}
-use Rattle.nq_spelling.specs.Spelled.{AreSpelled}
-use Rattle.nq_run.proofs.SpelledLemmas.{items_spelled}
+use Rattle.nq_answers.specs.Claims.{claims_at, claims_from}
 use Rattle.nq_run.proofs.BuiltLemmas.{right_log}
-use Rattle.nq_run.proofs.LogLemmas.{log_more, logs_after, logs_same, logs_within, logs_within_after, no_logs, within_after, within_kept, within_whole}
-use Rattle.nq_block.specs.Names.{HasSymbols}
+use Rattle.nq_run.proofs.LogLemmas.{log_more, one_block, logs_after, logs_same, logs_within, logs_within_after, within_after, within_kept, within_whole}
 use Rattle.nq_run.specs.Outcome as outcome
-use Rattle.nq_run.specs.Outcome.{Answered, Begun, CutOff, FilledLog, Finished, FinishedLog, Full, GrowsWithin, Halted, held_in, Interrupted, IsFinishedLog, IsLogOf, last_text, Logs, LogsWithin, PartialEnd, PartialLog, Ran, Stopped, Turned, TurnStopped, WroteWithin}
+use Rattle.nq_run.specs.Outcome.{Answered, Begun, BreaksLast, BreaksReport, CutOff, FilledLog, Finished, FinishedLog, Full, GrowsWithin, Halted, held_in, Interrupted, IsFinishedLog, IsLogOf, LacksLast, last_text, Logs, LogsWithin, PartialLog, Ran, Stopped, Turned, TurnStopped, UnendedLog, WriteFails, WroteWithin}
 use Rattle.nq_answers.specs.Steps.{Runs, Step, after}
 use Rattle.nq_answers.proofs.Deriving.{reported}
 
@@ -130,7 +126,7 @@ Ran-start logging a b t h count zero empty kept logs counted = record {
   text = subst (λ (z : Option (List ℕ)). Appends a.comment z []) (sym kept) (Appends-nil a.comment);
   log = header_text;
   logs = logs;
-  log_is = λ logs spelled. subst (λ (k : History). IsOpenLog header_text [] (without_classes k) × HasSymbols k) (sym empty) (log_begins_law, symbols_begin_law);
+  log_is = λ logs. subst (λ (k : History). IsOpenLog header_text [] (without_classes k)) (sym empty) log_begins_law;
   log_count = counted;
 }
 
@@ -167,16 +163,41 @@ begun_of None held left forms s = tt
 begun_of (Some all) held left forms s =
     record { front = s.text; rest = s.rest; whole = s.whole; spelled = s.spelled; seam = elim s.seam [ inl k ↦ inl k | inr k ↦ inr k.0 ] }
 
--- what is read of a text can be spelled
-pub if_spelled : (start : Option (List ℕ)) (forms : Forms) (P : Type 0) → IfSome start (λ text. Begun text forms) → (AreSpelled forms → P) → IfSome start (λ text. P)
-if_spelled None forms P begun holds = tt
-if_spelled (Some text) forms P begun holds = holds (items_spelled 500 begun.front forms begun.spelled)
+pub partial_log : (logging : Bool) (forms : Forms) (reports : List Report) (history : History) (a b : Option (List ℕ)) (log : List ℕ)
+    → LogsWithin logging a b log → (logging ≡ true → IsLogOf forms reports history log) → PartialLog logging forms reports a b
+partial_log logging forms reports history a b log logs is = record { log = log; history = without_classes history; logs = logs; log_is = is }
 
-partial_log : (logging : Bool) (start : Option (List ℕ)) (forms : Forms) (reports : List Report) (history : History) (a b : Option (List ℕ)) (log : List ℕ)
-    → IfSome start (λ text. Begun text forms) → LogsWithin logging a b log → (logging ≡ true → IsLogOf forms reports history log) → IfSome start (λ text. PartialLog logging forms reports a b)
-partial_log logging start forms reports history a b log begun logs is =
-    if_spelled start forms (PartialLog logging forms reports a b) begun
-    (λ spelled. record { log = log; history = without_classes history; logs = logs; log_is = λ w. (is w spelled).0 })
+pub unended : (logging : Bool) (forms : Forms) (history : History) (t : Totals) (count : ℕ) (a b : outcome.Held) (now : Option (List ℕ)) (ran : Ran logging forms history t count a b) → now ≡ b.log
+    → UnendedLog logging forms ran.reports a.log now
+unended logging forms history t count a b now ran same =
+    record { log = ran.log; history = without_classes history; logs = logs_same logging a.log b.log now ran.log ran.logs same; log_is = ran.log_is }
+
+-- the last write of a form failed
+module _ (logging : Bool) (earlier : Forms) (form : Form) (old : History) (t : Totals) (count : ℕ) (a b c : outcome.Held) (ran : Ran logging earlier old t count a b)
+    (wrote : WroteWithin logging (t.forms + 1) form old b c) where
+  both_lines : report_lines (ran.reports ++ wrote.report ∷ []) ≡ report_lines ran.reports ++ lines_of_report (t.forms + 1) wrote.report
+  both_lines = lines_of-turn ran.reports wrote.report t.forms (forms_counted ran.reports t ran.counted)
+
+  cut_turn : WriteFails logging (lines_of_report (t.forms + 1) wrote.report) wrote.block b c → BreaksReport logging (push earlier form) (ran.reports ++ wrote.report ∷ []) a c
+      ⊎ (Appends a.comment c.comment (report_lines (ran.reports ++ wrote.report ∷ [])) × PartialLog logging (push earlier form) (ran.reports ++ wrote.report ∷ []) a.log c.log)
+  cut_turn (inl fails) = inl (record {
+    earlier = earlier;
+    form = form;
+    forms_are = refl;
+    before = ran.reports;
+    report = wrote.report;
+    reports_are = refl;
+    text = subst (GrowsWithin a.comment c.comment) (sym both_lines) (within_after a.comment b.comment c.comment _ _ ran.text fails.0);
+    log = unended logging earlier old t count a b c.log ran fails.1;
+  })
+  cut_turn (inr fails) =
+      let new = after old form wrote.report.answer in
+      inr (
+        subst (Appends a.comment c.comment) (sym both_lines) (Appends-trans a.comment b.comment c.comment _ _ ran.text fails.1),
+        partial_log logging (push earlier form) (ran.reports ++ wrote.report ∷ []) new a.log c.log (ran.log ++ wrote.block)
+            (logs_within_after logging a.log b.log c.log ran.log wrote.block ran.logs (subst (λ (z : Bool). LogsWithin z b.log c.log wrote.block) (sym fails.0) fails.2))
+            (log_after logging earlier ran.reports old new form wrote.report ran.log wrote.block ran.runs ran.log_is wrote.answered),
+      )
 
 pub Ran-stopped : (logging : Bool) (left : Option (List ℕ)) (earlier : Forms) (form : Form) (old : History) (t : Totals) (count : ℕ) (a b c : outcome.Held)
     → Ran logging earlier old t count a b → IfSome left (λ text. Begun text earlier) → IfSome left (λ text. Begun text (push earlier form)) → TurnStopped logging (t.forms + 1) form old b c
@@ -186,9 +207,10 @@ Ran-stopped logging left earlier form old t count a b c ran before later (inl ke
   begins = before;
   reports = ran.reports;
   reported = reported earlier ran.reports old ran.runs;
-  text = within_kept a.comment b.comment c.comment _ ran.text kept.0;
-  log = partial_log logging left earlier ran.reports old a.log c.log ran.log before
-      (logs_within logging a.log c.log ran.log (logs_same logging a.log b.log c.log ran.log ran.logs kept.1)) ran.log_is;
+  cut = inr (
+    Appends-kept a.comment b.comment c.comment _ ran.text kept.0,
+    partial_log logging earlier ran.reports old a.log c.log ran.log (logs_within logging a.log c.log ran.log (logs_same logging a.log b.log c.log ran.log ran.logs kept.1)) ran.log_is,
+  );
 }
 Ran-stopped logging left earlier form old t count a b c ran before later (inr wrote) =
     let new = after old form wrote.report.answer in
@@ -198,28 +220,22 @@ Ran-stopped logging left earlier form old t count a b c ran before later (inr wr
       begins = later;
       reports = ran.reports ++ wrote.report ∷ [];
       reported = reported (push earlier form) (ran.reports ++ wrote.report ∷ []) new runs;
-      text = subst (GrowsWithin a.comment c.comment) (sym (lines_of-turn ran.reports wrote.report t.forms (forms_counted ran.reports t ran.counted)))
-          (within_after a.comment b.comment c.comment _ _ ran.text wrote.text);
-      log = partial_log logging left (push earlier form) (ran.reports ++ wrote.report ∷ []) new a.log c.log (ran.log ++ wrote.block) later
-          (logs_within_after logging a.log b.log c.log ran.log wrote.block ran.logs wrote.log)
-          (log_after logging earlier ran.reports old new form wrote.report ran.log wrote.block ran.runs ran.log_is wrote.answered);
+      cut = cut_turn logging earlier form old t count a b c ran wrote wrote.fails;
     }
 
 pub if_some_weaker : {A : Type 0} (o : Option A) (P Q : A → Type 0) → ((a : A) → P a → Q a) → IfSome o P → IfSome o Q
 if_some_weaker None P Q each holds = tt
 if_some_weaker (Some a) P Q each holds = each a holds
 
-if_both : {A : Type 0} (o : Option A) (P Q R : A → Type 0) → ((a : A) → P a → Q a → R a) → IfSome o P → IfSome o Q → IfSome o R
-if_both None P Q R each p q = tt
-if_both (Some a) P Q R each p q = each a p q
-
 -- the block of a form would fill the log
 pub Ran-full : (left : Option (List ℕ)) (earlier : Forms) (form : Form) (old : History) (t : Totals) (count : ℕ) (a b c : outcome.Held)
-    → Ran true earlier old t count a b → IfSome left (λ text. Begun text (push earlier form)) → FilledLog count (t.forms + 1) form old b c → Full left a c
-Ran-full left earlier form old t count a b c ran later filled =
+    → Ran true earlier old t count a b → IfSome left (λ text. Begun text (push earlier form)) → count < 2 ^ 62 → FilledLog count (t.forms + 1) form old b c → Full left a c
+Ran-full left earlier form old t count a b c ran later within filled =
     let new = after old form filled.report.answer in
     let runs = Runs-more [] earlier ran.reports old form filled.report new ran.runs filled.answered.step in
     let counted = ran.log_count refl in
+    let some : 0 < length filled.block = omega (arith, within, filled.full) in
+    let one = one_block old (claims_at old form filled.report.answer) filled.block (filled.answered.written refl) some in
     record {
       forms = push earlier form;
       begins = later;
@@ -230,139 +246,49 @@ Ran-full left earlier form old t count a b c ran later filled =
       log = ran.log;
       next = filled.block;
       logs = logs_same true a.log b.log c.log ran.log ran.logs filled.log;
-      follows = if_some_weaker left _ _ (λ text opened. (without_classes new, inl opened))
-          (if_spelled left (push earlier form) (IsOpenLog (ran.log ++ filled.block) (claims_from [] (push earlier form) (ran.reports ++ filled.report ∷ [])) (without_classes new)) later
-          (λ spelled. (log_after true earlier ran.reports old new form filled.report ran.log filled.block ran.runs ran.log_is filled.answered refl spelled).0));
-      full = let whole : length (ran.log ++ filled.block) ≡ length ran.log + length filled.block = length-append ran.log filled.block in
-          omega (arith, counted, whole, filled.full);
+      follows = inl (record {
+        earlier = earlier;
+        form = form;
+        forms_are = refl;
+        before = ran.reports;
+        report = filled.report;
+        reports_are = refl;
+        history = old;
+        runs = ran.runs;
+        log_is = ran.log_is refl;
+        claim = one.0;
+        claims = one.1;
+        block = one.2;
+      });
+      small = filled.small;
+      full = omega (arith, counted, filled.full);
     }
 
 pub on_err : {T E : Type 0} (r : Result T E) (P : Type 0) → P → OnErr r P
 on_err (Ok value) P holds = tt
 on_err (Err why) P holds = holds
 
--- ---- the closing lines
+-- ---- a write that failed
 
--- the ending of a text that was read to its end, or to a fault of its spelling
-abbrev IsEnded : Ending → Type 0
-IsEnded done = ⊤
-IsEnded (fault code offset) = ⊤
-IsEnded too_long = ⊥
+pub writes_fail : (logging : Bool) (lines text : List ℕ) (a b : outcome.Held) → Appends a.comment b.comment lines → LogsWithin logging a.log b.log text → WriteFails logging lines text a b
+writes_fail true lines text a b appends within = inr (refl, appends, within)
+writes_fail false lines text a b appends within = inl (within_whole a.comment b.comment lines appends, within)
 
-own_ending : (spelling : Option SyntaxFault) → IsEnded (ending_of spelling)
-own_ending None = tt
-own_ending (Some f) = tt
+pub log_fails : {T E : Type 0} (r : Result T E) (logging : Bool) (lines text : List ℕ) (a b c d : Option (List ℕ)) → Appends a b lines → OnErr r (LogsWithin logging c d text)
+    → OnErr r (WriteFails logging lines text (held_in a c) (held_in b d))
+log_fails (Ok x) logging lines text a b c d appends within = tt
+log_fails (Err e) logging lines text a b c d appends within = writes_fail logging lines text (held_in a c) (held_in b d) appends within
 
-finished_log : (logging : Bool) (ending : Ending) (forms : Forms) (reports : List Report) (history : History) (a c : Option (List ℕ)) (log : List ℕ)
-    → Logs logging a c (log ++ last_text ending) → (logging ≡ true → length (log ++ last_text ending) < 2 ^ 62) → (logging ≡ true → IsLogOf forms reports history log) → Runs [] forms reports history
-    → IsEnded ending → AreSpelled forms → FinishedLog logging ending forms reports a c
-finished_log logging done forms reports history a c log logs small is runs ended spelled =
-    record { log = log ++ end_text; logs = logs; small = small; log_is = λ w. right_log forms reports history (without_classes history) log runs (is w spelled).0 }
-finished_log logging (fault code offset) forms reports history a c log logs small is runs ended spelled =
-    record {
-      log = log;
-      logs = subst (Logs logging a c) (append-nil log) logs;
-      small = λ w. subst (λ (t : List ℕ). length t < 2 ^ 62) (append-nil log) (small w);
-      log_is = λ w. (without_classes history, (is w spelled).0);
-    }
-finished_log logging too_long forms reports history a c log logs small is runs ended spelled = absurd ended
-
--- the bytes of the log and of its last line
-ended_small : (logging : Bool) (log last : List ℕ) (count : ℕ) → (logging ≡ true → count ≡ length log) → (logging ≡ true → count + length last < 2 ^ 62) → logging ≡ true → length (log ++ last) < 2 ^ 62
-ended_small logging log last count counted small w =
-    let same = counted w in
-    let below = small w in
-    let whole : length (log ++ last) ≡ length log + length last = length-append log last in
-    omega (arith, same, below, whole)
-
-pub Ran-finished : (logging : Bool) (left : Option (List ℕ)) (spelling : Option SyntaxFault) (forms : Forms) (history : History) (t : Totals) (count : ℕ) (a b c : outcome.Held)
-    (ran : Ran logging forms history t count a b)
-    → IfSome left (λ text. Reads 500 (2 ^ 25) text forms (ending_of spelling)) → IfSome left (λ text. Begun text forms)
-    → Appends b.comment c.comment (closing_lines (ending_of spelling) t) → Logs logging b.log c.log (last_text (ending_of spelling))
-    → (logging ≡ true → count + length (last_text (ending_of spelling)) < 2 ^ 62) → Finished logging left (ending_of spelling) ran.reports a c
-Ran-finished logging left spelling forms history t count a b c ran reads begun closes last small = record {
-  forms = forms;
-  reads = reads;
-  reported = reported forms ran.reports history ran.runs;
-  text = Appends-trans a.comment b.comment c.comment _ _ ran.text (subst (λ (u : Totals). Appends b.comment c.comment (closing_lines (ending_of spelling) u)) ran.counted closes);
-  log = if_spelled left forms (FinishedLog logging (ending_of spelling) forms ran.reports a.log c.log) begun
-      (finished_log logging (ending_of spelling) forms ran.reports history a.log c.log ran.log
-      (logs_after logging a.log b.log c.log ran.log (last_text (ending_of spelling)) ran.logs last)
-      (ended_small logging ran.log (last_text (ending_of spelling)) count ran.log_count small) ran.log_is ran.runs (own_ending spelling));
-  no_log = no_logs logging a.log c.log (ran.log ++ last_text (ending_of spelling))
-      (logs_after logging a.log b.log c.log ran.log (last_text (ending_of spelling)) ran.logs last);
-}
-
-pub Ran-cut : (logging : Bool) (left : Option (List ℕ)) (spelling : Option SyntaxFault) (forms : Forms) (history : History) (t : Totals) (count : ℕ) (a b c : outcome.Held)
-    → Ran logging forms history t count a b
-    → IfSome left (λ text. Reads 500 (2 ^ 25) text forms (ending_of spelling)) → IfSome left (λ text. Begun text forms)
-    → GrowsWithin b.comment c.comment (closing_lines (ending_of spelling) t) → LogsWithin logging b.log c.log (last_text (ending_of spelling)) → CutOff logging left a c
-Ran-cut logging left spelling forms history t count a b c ran reads begun closes last = record {
-  forms = forms;
-  spelling = spelling;
-  reads = reads;
-  reports = ran.reports;
-  reported = reported forms ran.reports history ran.runs;
-  text = within_after a.comment b.comment c.comment _ _ ran.text (subst (λ (u : Totals). GrowsWithin b.comment c.comment (closing_lines (ending_of spelling) u)) ran.counted closes);
-  log = if_spelled left forms (PartialEnd logging (ending_of spelling) forms ran.reports a.log c.log) begun
-      (λ spelled. record {
-        log = ran.log;
-        history = without_classes history;
-        logs = logs_within_after logging a.log b.log c.log ran.log (last_text (ending_of spelling)) ran.logs last;
-        log_is = λ w. (ran.log_is w spelled).0;
-      });
-}
-
-pub Ran-halted : (logging : Bool) (start left : Option (List ℕ)) (why : ReadFault) (forms : Forms) (history : History) (t : Totals) (count : ℕ) (a b : outcome.Held)
-    → Ran logging forms history t count a b → IfSome start (λ text. IsEnding text forms left why) → IfSome start (λ text. Begun text forms) → Halted logging start left why a b
-Ran-halted logging start left why forms history t count a b ran reads begun = record {
-  forms = forms;
-  reads = reads;
-  reports = ran.reports;
-  reported = reported forms ran.reports history ran.runs;
-  text = ran.text;
-  log = partial_log logging start forms ran.reports history a.log b.log ran.log begun (logs_within logging a.log b.log ran.log ran.logs) ran.log_is;
-}
-
-pub Ran-interrupted : (logging : Bool) (left : Option (List ℕ)) (forms : Forms) (history : History) (t : Totals) (count : ℕ) (a b : outcome.Held)
-    → Ran logging forms history t count a b → IfSome left (λ text. Begun text forms) → Stopped logging left a b
-Ran-interrupted logging left forms history t count a b ran begins = inl (record {
-  forms = forms;
-  begins = begins;
-  reports = ran.reports;
-  reported = reported forms ran.reports history ran.runs;
-  text = within_whole a.comment b.comment (report_lines ran.reports) ran.text;
-  log = partial_log logging left forms ran.reports history a.log b.log ran.log begins (logs_within logging a.log b.log ran.log ran.logs) ran.log_is;
-})
-
--- the last line would fill the log
-pub Ran-filled : (left : Option (List ℕ)) (spelling : Option SyntaxFault) (forms : Forms) (history : History) (t : Totals) (count : ℕ) (a b c : outcome.Held)
-    → Ran true forms history t count a b → IfSome left (λ text. Reads 500 (2 ^ 25) text forms (ending_of spelling)) → IfSome left (λ text. Begun text forms)
-    → count < 2 ^ 62 → 2 ^ 62 ≤ count + length (last_text (ending_of spelling)) → Keeps b.comment c.comment → c.log ≡ b.log → Full left a c
-Ran-filled left (Some f) forms history t count a b c ran reads begun small full kept same = absurd (omega (arith, small, full))
-Ran-filled left None forms history t count a b c ran reads begun small full kept same =
-    let counted = ran.log_count refl in
-    record {
-      forms = forms;
-      begins = begun;
-      reports = ran.reports;
-      reported = reported forms ran.reports history ran.runs;
-      text = Appends-kept a.comment b.comment c.comment _ ran.text kept;
-      log = ran.log;
-      next = end_text;
-      logs = logs_same true a.log b.log c.log ran.log ran.logs same;
-      follows = if_both left _ _ _ (λ text read opened. (without_classes history, inr (opened, refl, read))) reads
-          (if_spelled left forms (IsOpenLog ran.log (claims_from [] forms ran.reports) (without_classes history)) begun (λ spelled. (ran.log_is refl spelled).0));
-      full = let whole : length (ran.log ++ end_text) ≡ length ran.log + length end_text = length-append ran.log end_text in omega (arith, counted, whole, full);
-    }
+pub fails_as : (logging : Bool) (closing text last own : List ℕ) (a b : outcome.Held) → closing ≡ text → last ≡ own → WriteFails logging closing last a b → WriteFails logging text own a b
+fails_as logging closing text last own a b e f fails = subst (λ (t : List ℕ). WriteFails logging text t a b) f (subst (λ (t : List ℕ). WriteFails logging t last a b) e fails)
 
 pub if_ok_on : {T E : Type 0} (r : Result T E) (P Q : T → Type 0) (A B C : Type 0) → ((x : T) → P x → A → B → C → Q x) → IfOk r P → OnOk r A → OnOk r B → OnOk r C → IfOk r Q
 if_ok_on (Ok x) P Q A B C each p a b c = each x p a b c
 if_ok_on (Err e) P Q A B C each p a b c = tt
 
-pub on_err_weaker : {T E : Type 0} (r : Result T E) (A B C : Type 0) → (A → B → C) → OnErr r A → OnErr r B → OnErr r C
-on_err_weaker (Ok x) A B C each a b = tt
-on_err_weaker (Err e) A B C each a b = each a b
+pub on_err_weaker : {T E : Type 0} (r : Result T E) (A B : Type 0) → (A → B) → OnErr r A → OnErr r B
+on_err_weaker (Ok x) A B each a = tt
+on_err_weaker (Err e) A B each a = each a
 
 -- ---- before the first form
 
@@ -377,8 +303,10 @@ begun_interrupted logging left a b kept logs = record {
   begins = nothing_begun left;
   reports = [];
   reported = reported end [] [] refl;
-  text = subst (λ (z : Option (List ℕ)). GrowsWithin a.comment z []) (sym kept) (record { front = []; rest = []; whole = refl; appends = Appends-nil a.comment });
-  log = partial_log logging left end [] [] a.log b.log header_text (nothing_begun left) logs (λ w spelled. (log_begins_law, symbols_begin_law));
+  cut = inr (
+    subst (λ (z : Option (List ℕ)). Appends a.comment z []) (sym kept) (Appends-nil a.comment),
+    partial_log logging end [] [] a.log b.log header_text logs (λ w. log_begins_law),
+  );
 }
 
 -- ---- where it is told in another way whether a log is written

@@ -26,8 +26,7 @@ reports_alike answer word other_word name other_name words names =
 pub answered_as : (old : History) (f : Form) (logging : Bool) (r : Taken) → Takes old f logging r → Answered f old (history_of r.session) (reported_as f (answer_of r.answer)) logging r.block
 answered_as old f logging r taken = record {
   step = record { word = refl; name = refl; answer = taken.answered; history = taken.after_is };
-  written = λ on symbols spelled. taken.written on;
-  symbols = λ symbols spelled. taken.stands.symbols;
+  written = taken.written;
 }
 
 -- the same, where the history is not told

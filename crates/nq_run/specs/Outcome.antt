@@ -3,7 +3,7 @@ use Rattle.std.specs.Prelude.{◌≡◌, ◌⊎◌, ◌+◌, ◌^◌, ◌≤◌,
 use Rattle.std.specs.Io.KnownBytes.{Appends, Keeps}
 use Rattle.nq_logic.specs.Histories.{History}
 use Rattle.nq_logic.specs.Classes.{without_classes}
-use Rattle.nq_form.specs.Form.{Form, Forms}
+use Rattle.nq_form.specs.Form.{Form, Forms, push}
 use Rattle.nq_form.specs.Bytes.{is_closed, begins_apart}
 use Rattle.nq_form.specs.Grammar.{Items, Reads, Ending, done, fault, too_long}
 use Rattle.nq_sexp.specs.Whole.{IsEnding}
@@ -12,7 +12,6 @@ use Rattle.nq_log.specs.States.{Claim}
 use Rattle.nq_log.specs.Logs.{Right, reading_by, reading_of}
 use Rattle.nq_log.specs.Stage.{built_step}
 use Rattle.nq_block.specs.Blocks.{IsBlock}
-use Rattle.nq_block.specs.Names.{HasSymbols}
 use Rattle.nq_block.specs.OpenLogs.{IsOpenLog, end_text}
 use Rattle.nq_comment.specs.Reports.{Report}
 use Rattle.nq_comment.specs.Text.{lines_of_report, rendering, report_lines}
@@ -21,7 +20,6 @@ use Rattle.nq_comment.specs.Totals.{Totals, totals_of, unsuccessful, with_report
 use Rattle.nq_comment.specs.declared.report.SyntaxFault.{SyntaxFault}
 use Rattle.nq_answers.specs.Claims.{claims_at, claims_from}
 use Rattle.nq_answers.specs.Derived.{Reported}
-use Rattle.nq_spelling.specs.Spelled.{IsSpelled, AreSpelled}
 use Rattle.nq_answers.specs.Steps.{Runs, Step, after}
 
 -- what is held grew by the text, or by a front part of it
@@ -49,6 +47,13 @@ abbrev pub LogsWithin : Bool → Option (List ℕ) → Option (List ℕ) → Lis
 LogsWithin true held now text = GrowsWithin held now text
 LogsWithin false held now text = now ≡ held
 
+-- Lines of the commentary and then a text of the log were to be written, and a write failed. Either the lines were not written to
+-- their end, and so nothing of the text; or they were, and a front part of the text behind them.
+abbrev pub WriteFails : Bool → List ℕ → List ℕ → Held → Held → Type 0
+WriteFails logging lines text held now =
+    (GrowsWithin held.comment now.comment lines × (now.log ≡ held.log))
+    ⊎ ((logging ≡ true) × Appends held.comment now.comment lines × GrowsWithin held.log now.log text)
+
 -- the text begins with these forms, and no symbol or numeral goes on behind them
 pub record Begun (text : List ℕ) (forms : Forms) : Type 0 where
   pub front : List ℕ
@@ -68,12 +73,10 @@ AreBlocks h [] text = text ≡ []
 AreBlocks h (c ∷ []) text = IsBlock h c text
 AreBlocks h (c ∷ (d ∷ claims)) text = ⊥
 
--- What a form is answered in a history: the step, and the text that it adds to the log, which is the block of what it
--- claims wherever its names can be spelled.
+-- What a form is answered in a history: the step, and the text that it adds to the log, which is the block of what it claims.
 pub record Answered (form : Form) (old new : History) (report : Report) (logging : Bool) (block : List ℕ) : Type 0 where
   pub step : Step old form report new
-  pub written : logging ≡ true → HasSymbols old → IsSpelled form → AreBlocks old (claims_at old form report.answer) block
-  pub symbols : HasSymbols old → IsSpelled form → HasSymbols new
+  pub written : logging ≡ true → AreBlocks old (claims_at old form report.answer) block
 
 -- one form was run, and the sinks gained the lines of its report and its block
 pub record Turned (logging : Bool) (form : Form) (old new : History) (before later : Totals) (count next : ℕ) (held now : Held) : Type 0 where
@@ -90,25 +93,26 @@ pub record WroteWithin (logging : Bool) (number : ℕ) (form : Form) (old : Hist
   pub report : Report
   pub block : List ℕ
   pub answered : Answered form old (after old form report.answer) report logging block
-  pub text : GrowsWithin held.comment now.comment (lines_of_report number report)
-  pub log : LogsWithin logging held.log now.log block
+  pub fails : WriteFails logging (lines_of_report number report) block held now
 
 -- the same, or before anything was written
 abbrev pub TurnStopped : Bool → ℕ → Form → History → Held → Held → Type 0
 TurnStopped logging number form old held now = (Keeps held.comment now.comment × (now.log ≡ held.log)) ⊎ WroteWithin logging number form old held now
 
--- The form's block would bring the log to its limit, where it holds so many bytes of this run. The report was written.
+-- The form's block, which is no longer than a block may be, would bring the log to its limit, where it holds so many bytes of
+-- this run. The report was written.
 pub record FilledLog (count number : ℕ) (form : Form) (old : History) (held now : Held) : Type 0 where
   pub report : Report
   pub block : List ℕ
   pub answered : Answered form old (after old form report.answer) report true block
+  pub small : length block ≤ 2 ^ 40
   pub full : 2 ^ 62 ≤ count + length block
   pub text : Appends held.comment now.comment (lines_of_report number report)
   pub log : now.log ≡ held.log
 
--- the log of these forms and reports, but for its last line, wherever names can be spelled
+-- the log of these forms and reports, but for its last line
 abbrev pub IsLogOf : Forms → List Report → History → List ℕ → Type 0
-IsLogOf forms reports history text = AreSpelled forms → IsOpenLog text (claims_from [] forms reports) (without_classes history) × HasSymbols history
+IsLogOf forms reports history text = IsOpenLog text (claims_from [] forms reports) (without_classes history)
 
 -- These forms were run from the ground history, and the sinks gained the lines of their reports, and the log with its first
 -- line, of so many bytes.
@@ -152,18 +156,18 @@ pub record FinishedLog (logging : Bool) (ending : Ending) (forms : Forms) (repor
   pub small : logging ≡ true → length log < 2 ^ 62
   pub log_is : logging ≡ true → IsFinishedLog ending forms reports log
 
--- the log gained a front part of a log with these claims, which has no last line
+-- the log gained a log with these claims, which has no last line
+pub record UnendedLog (logging : Bool) (forms : Forms) (reports : List Report) (held now : Option (List ℕ)) : Type 0 where
+  pub log : List ℕ
+  pub history : History
+  pub logs : Logs logging held now log
+  pub log_is : logging ≡ true → IsOpenLog log (claims_from [] forms reports) history
+
+-- the log gained a front part of such a log
 pub record PartialLog (logging : Bool) (forms : Forms) (reports : List Report) (held now : Option (List ℕ)) : Type 0 where
   pub log : List ℕ
   pub history : History
   pub logs : LogsWithin logging held now log
-  pub log_is : logging ≡ true → IsOpenLog log (claims_from [] forms reports) history
-
--- the same, and perhaps a front part of the last line behind it
-pub record PartialEnd (logging : Bool) (ending : Ending) (forms : Forms) (reports : List Report) (held now : Option (List ℕ)) : Type 0 where
-  pub log : List ℕ
-  pub history : History
-  pub logs : LogsWithin logging held now (log ++ last_text ending)
   pub log_is : logging ≡ true → IsOpenLog log (claims_from [] forms reports) history
 
 -- the whole text was read, and the sinks gained the whole commentary and the whole log
@@ -172,8 +176,7 @@ pub record Finished (logging : Bool) (left : Option (List ℕ)) (ending : Ending
   pub reads : IfSome left (λ text. Reads 500 (2 ^ 25) text forms ending)
   pub reported : Reported forms reports
   pub text : Appends held.comment now.comment (rendering reports ending)
-  pub log : IfSome left (λ text. FinishedLog logging ending forms reports held.log now.log)
-  pub no_log : logging ≡ false → now.log ≡ held.log
+  pub log : FinishedLog logging ending forms reports held.log now.log
 
 -- reading stopped by this fault, with so many bytes left in the source, and the sinks gained the lines of the reports so far
 -- and the log so far
@@ -183,16 +186,35 @@ pub record Halted (logging : Bool) (start left : Option (List ℕ)) (why : ReadF
   pub reports : List Report
   pub reported : Reported forms reports
   pub text : Appends held.comment now.comment (report_lines reports)
-  pub log : IfSome start (λ text. PartialLog logging forms reports held.log now.log)
+  pub log : UnendedLog logging forms reports held.log now.log
 
--- What would follow on the log of these forms: the block of the last of them, or, where they are the whole text, the last line.
-abbrev pub Follows : List ℕ → Forms → List Report → List ℕ → List ℕ → Type 0
-Follows text forms reports log next = (history : History)
-    × (IsOpenLog (log ++ next) (claims_from [] forms reports) history
-    ⊎ (IsOpenLog log (claims_from [] forms reports) history × (next ≡ end_text) × Reads 500 (2 ^ 25) text forms done))
+-- The log is that of all forms but the last, and what would follow it is one block, which claims what the event of the last
+-- form does.
+pub record BlockIsNext (forms : Forms) (reports : List Report) (log next : List ℕ) : Type 0 where
+  pub earlier : Forms
+  pub form : Form
+  pub forms_are : forms ≡ push earlier form
+  pub before : List Report
+  pub report : Report
+  pub reports_are : reports ≡ before ++ report ∷ []
+  pub history : History
+  pub runs : Runs [] earlier before history
+  pub log_is : IsLogOf earlier before history log
+  pub claim : Claim
+  pub claims : claims_at history form report.answer ≡ claim ∷ []
+  pub block : IsBlock history claim next
 
--- The log is full: with what would follow it would have 2^62 bytes or more. Nothing of that was written, but the lines of all
--- reports so far were.
+-- The log is that of all forms, which are the whole text, and what would follow it is its last line.
+pub record EndIsNext (left : Option (List ℕ)) (forms : Forms) (reports : List Report) (log next : List ℕ) : Type 0 where
+  pub reads : IfSome left (λ text. Reads 500 (2 ^ 25) text forms done)
+  pub history : History
+  pub runs : Runs [] forms reports history
+  pub log_is : IsLogOf forms reports history log
+  pub last : next ≡ end_text
+
+-- The log is full: it ends between two blocks, or before its last line, and with what would follow it would have 2^62 bytes or
+-- more. Since no block has more than 2^40 bytes, it is short of 2^62 bytes by no more than that. Nothing of what would follow
+-- was written, but the lines of all reports so far were.
 pub record Full (left : Option (List ℕ)) (held now : Held) : Type 0 where
   pub forms : Forms
   pub begins : IfSome left (λ text. Begun text forms)
@@ -202,28 +224,55 @@ pub record Full (left : Option (List ℕ)) (held now : Held) : Type 0 where
   pub log : List ℕ
   pub next : List ℕ
   pub logs : Appends held.log now.log log
-  pub follows : IfSome left (λ text. Follows text forms reports log next)
-  pub full : 2 ^ 62 ≤ length (log ++ next)
+  pub follows : BlockIsNext forms reports log next ⊎ EndIsNext left forms reports log next
+  pub small : length next ≤ 2 ^ 40
+  pub full : 2 ^ 62 ≤ length log + length next
 
--- some forms were run, and the sinks gained a front part of their lines and of their log
+-- the lines of the last report were not written to their end, and so the log is that of all forms but the last
+pub record BreaksReport (logging : Bool) (forms : Forms) (reports : List Report) (held now : Held) : Type 0 where
+  pub earlier : Forms
+  pub form : Form
+  pub forms_are : forms ≡ push earlier form
+  pub before : List Report
+  pub report : Report
+  pub reports_are : reports ≡ before ++ report ∷ []
+  pub text : GrowsWithin held.comment now.comment (report_lines reports)
+  pub log : UnendedLog logging earlier before held.log now.log
+
+-- Some forms were run. The sinks gained a front part of their lines, and the log of all of them but the last; or all of their
+-- lines, and a front part of their log.
 pub record Interrupted (logging : Bool) (left : Option (List ℕ)) (held now : Held) : Type 0 where
   pub forms : Forms
   pub begins : IfSome left (λ text. Begun text forms)
   pub reports : List Report
   pub reported : Reported forms reports
-  pub text : GrowsWithin held.comment now.comment (report_lines reports)
-  pub log : IfSome left (λ text. PartialLog logging forms reports held.log now.log)
+  pub cut : BreaksReport logging forms reports held now ⊎ (Appends held.comment now.comment (report_lines reports) × PartialLog logging forms reports held.log now.log)
 
--- All forms were run, to the end of the text or to a fault of its spelling, and the sinks gained a front part of the whole
--- commentary and of the whole log.
+-- the closing lines were not written to their end, or the last line was not begun: the log has nothing of it
+pub record LacksLast (logging : Bool) (ending : Ending) (reports : List Report) (log : List ℕ) (held now : Held) : Type 0 where
+  pub text : GrowsWithin held.comment now.comment (rendering reports ending)
+  pub logs : Logs logging held.log now.log log
+
+-- the closing lines were written, and then the last line of the log failed: the log has a front part of it
+pub record BreaksLast (ending : Ending) (reports : List Report) (log : List ℕ) (held now : Held) : Type 0 where
+  pub text : Appends held.comment now.comment (rendering reports ending)
+  pub front : List ℕ
+  pub rest : List ℕ
+  pub last : last_text ending ≡ front ++ rest
+  pub logs : Appends held.log now.log (log ++ front)
+
+-- All forms were run, to the end of the text or to a fault of its spelling. The sinks gained a front part of the whole
+-- commentary, and the log without its last line; or the whole commentary, and the log with a front part of its last line.
 pub record CutOff (logging : Bool) (left : Option (List ℕ)) (held now : Held) : Type 0 where
   pub forms : Forms
   pub spelling : Option SyntaxFault
   pub reads : IfSome left (λ text. Reads 500 (2 ^ 25) text forms (ending_of spelling))
   pub reports : List Report
   pub reported : Reported forms reports
-  pub text : GrowsWithin held.comment now.comment (rendering reports (ending_of spelling))
-  pub log : IfSome left (λ text. PartialEnd logging (ending_of spelling) forms reports held.log now.log)
+  pub log : List ℕ
+  pub history : History
+  pub log_is : logging ≡ true → IsOpenLog log (claims_from [] forms reports) history
+  pub cut : LacksLast logging (ending_of spelling) reports log held now ⊎ ((logging ≡ true) × BreaksLast (ending_of spelling) reports log held now)
 
 abbrev pub Stopped : Bool → Option (List ℕ) → Held → Held → Type 0
 Stopped logging left held now = Interrupted logging left held now ⊎ CutOff logging left held now

@@ -1,14 +1,24 @@
 // What a run writes to its two sinks.
-ghost use Rattle.std.specs.Prelude.{◌≡◌, ◌+◌, ◌≤◌, ◌<◌, ◌^◌, ◌↔◌, length, true, false, Err, IfOk, IsTrue, OnOk, OnErr};
+ghost use Rattle.std.specs.Prelude.{◌≡◌, ◌+◌, ◌≤◌, ◌<◌, ◌^◌, ◌↔◌, ◌⊎◌, length, true, false, Err, IfOk, IsTrue, OnOk, OnErr};
 ghost use Rattle.std.specs.Io.KnownBytes.{Appends, Keeps};
 ghost use Rattle.nq_io.specs.Faults.{Rose};
-ghost use Rattle.nq_run.specs.Outcome.{GrowsWithin, Logs, LogsWithin};
+ghost use Rattle.nq_run.specs.Outcome.{GrowsWithin, WriteFails, Logs, LogsWithin, held_in};
 
 use crate::runs::RunFault;
 use nq_io::{Sink, SinkFault};
 
 /// A log has fewer bytes than this.
 const LOG_LIMIT: u64 = 1 << 62;
+
+/// A block of a log has at most this many bytes.
+const BLOCK_LIMIT: u64 = 1 << 40;
+
+/// Has the block more bytes than a block may have?
+pub(crate) fn is_block_too_long(block: &[u8]) -> bool
+    ensures { IsTrue result ↔ (2 ^ 40 < length block.now) }
+{
+    BLOCK_LIMIT < block.len() as u64
+}
 
 /// Writes a text by one write.
 #[tactic(auto, using(crate::proofs::RunLemmas::within_part))]
@@ -76,5 +86,31 @@ impl LogSoFar {
             logging: self.logging,
             count: self.count + text.len() as u64,
         }
+    }
+}
+
+/// Writes the closing lines, and behind them the last line of the log, where one is written.
+#[tactic(auto, using(crate::proofs::RunLemmas::log_fails))]
+pub(crate) fn write_last<O: Sink, L: Sink>(
+    comment: &mut O,
+    closing: &[u8],
+    log: &mut L,
+    so_far: LogSoFar,
+    last: &[u8],
+) -> Result<LogSoFar, RunFault>
+    requires within { so_far.count < 2 ^ 62 }
+    requires room { so_far.logging ≡ true → so_far.count + length last.now < 2 ^ 62 }
+    ensures ok { OnOk result (Appends (O.written comment.old) (O.written comment.new) closing.now) }
+    ensures log_ok { OnOk result (Logs so_far.logging (L.written log.old) (L.written log.new) last.now) }
+    ensures fails { OnErr result (WriteFails so_far.logging closing.now last.now
+        (held_in (O.written comment.old) (L.written log.old)) (held_in (O.written comment.new) (L.written log.new))) }
+    ensures write { result ≡ Err RunFault.Write → Rose (O.faults comment.old) (O.faults comment.new) ⊎ Rose (L.faults log.old) (L.faults log.new) }
+    ensures no_read { result ≡ Err RunFault.Read → ⊥ }
+    ensures no_length { result ≡ Err RunFault.TooLong → ⊥ }
+    ensures alone { so_far.logging ≡ false → log.new ≡ log.old }
+{
+    match write_text(comment, closing) {
+        Ok(()) => so_far.append(log, last),
+        Err(fault) => Err(fault),
     }
 }

@@ -14,13 +14,14 @@ ghost use Rattle.nq_block.specs.OpenLogs.{header_text};
 ghost use Rattle.nq_history.specs.Events.{ground_length};
 ghost use Rattle.nq_kernel.specs.Proving.{HasGround};
 ghost use Rattle.nq_run.specs.HistoryView.{history_of, SessionStands};
-ghost use Rattle.nq_run.specs.Outcome.{Begun, FilledLog, Finished, Full, GrowsWithin, Halted, Interrupted, IsStop, Logs, LogsWithin, Stopped, Turned, TurnStopped, WasRun, held_in, last_text, status_of};
+ghost use Rattle.nq_run.specs.Outcome.{Begun, FilledLog, Finished, Full, Halted, Interrupted, IsStop, WriteFails, Logs, LogsWithin, Stopped, Turned, TurnStopped, WasRun, held_in, last_text, status_of};
 ghost use Rattle.nq_run.specs.RunFaults.{fault_status};
+ghost use Rattle.nq_run.specs.Sessions.{Takes};
 ghost use Rattle.nq_spelling.specs.Spelled.{IsSpelled};
 
 use crate::header::{name_of, word_of};
-use crate::outputs::{LogSoFar, write_text};
-use crate::session::Session;
+use crate::outputs::{LogSoFar, is_block_too_long, write_last, write_text};
+use crate::session::{Session, Taken};
 use bumpalo::Bump;
 use nq_comment::{Counts, FormReport, SyntaxFault, render_closing, render_report};
 use nq_io::{Sink, Source};
@@ -43,7 +44,7 @@ pub enum RunFault {
     Write,
     /// The file has more than 2^25 bytes, or the log would reach 2^62.
     TooLong,
-    /// Memory is wanting.
+    /// Memory is wanting, or a block of the log would have more than 2^40 bytes.
     Memory,
 }
 
@@ -100,7 +101,7 @@ struct Walked {
 
 /// Runs the forms of the source from the ground history, each as it is read, and writes the commentary: each report by one
 /// write, and then the closing lines by one. With `logging` it writes the log too: its first line, the block of each event
-/// that was accepted, proved or undone, and its last line once the whole file was run; else `log` is left alone. The prover has
+/// that was accepted, proved or undone, and behind the closing lines its last line, where the whole file was run; else `log` is left alone. The prover has
 /// learnt just the ground history. Each event may take so many steps.
 pub fn run_events<S: Source, O: Sink, L: Sink, P: Prover>(
     alloc: Global,
@@ -125,7 +126,9 @@ pub fn run_events<S: Source, O: Sink, L: Sink, P: Prover>(
         → Halted logging (S.left src.old) (S.left src.new) ReadFault.FileTooLong (held_in (O.written comment.old) (L.written log.old)) (held_in (O.written comment.new) (L.written log.new))
         ⊎ ((logging ≡ true) × Full (S.left src.old) (held_in (O.written comment.old) (L.written log.old)) (held_in (O.written comment.new) (L.written log.new))) }
 
-    // After any fault a front part of such lines, or of a whole commentary, was written, and of their log.
+    // After any fault the lines of some forms were written and a front part of their log, or a front part of the lines and the
+    // log of all those forms but the last; or the whole commentary and the log with a front part of its last line, or a front
+    // part of the commentary and the log without that line.
     ensures stopped { OnErr result (Stopped logging (S.left src.old) (held_in (O.written comment.old) (L.written log.old)) (held_in (O.written comment.new) (L.written log.new))) }
 
     // A fault of a stream has its cause.
@@ -297,10 +300,7 @@ fn turn<O: Sink, L: Sink, P: Prover>(
     ensures no_read { result ≡ Err RunFault.Read → ⊥ }
     ensures alone { progress.log.logging ≡ false → log.new ≡ log.old }
 {
-    let taken = match session.take(alloc, prover, form, progress.log.logging, limit) {
-        Ok(taken) => taken,
-        Err(_) => return Err(RunFault::Memory),
-    };
+    let taken = take_form(alloc, session, prover, form, progress.log.logging, limit)?;
     let kind = taken.answer.kind();
     let report = FormReport {
         word: word_of(form),
@@ -323,6 +323,35 @@ fn turn<O: Sink, L: Sink, P: Prover>(
             log,
         },
     })
+}
+
+/// Answers a form. A block that is too long is as one for which memory is wanting.
+fn take_form<P: Prover>(
+    alloc: Global,
+    session: Session,
+    prover: &mut P,
+    form: &Sexp<'_>,
+    logging: bool,
+    limit: u64,
+) -> Result<Taken, RunFault>
+    requires stands { SessionStands session }
+    requires learnt { P.has_learnt prover.old session.history }
+    requires spelled { IsSpelled (tree form.now) }
+    requires narrow { IsNarrow (2 ^ 25) (tree form.now) }
+    ensures takes { IfOk result (Takes (history_of session) (tree form.now) logging) }
+    ensures learnt { IfOk result (λ r. P.has_learnt prover.new r.session.history) }
+    ensures small { IfOk result (λ r. length r.block ≤ 2 ^ 40) }
+    ensures only { OnErr result (result ≡ Err RunFault.Memory) }
+{
+    match session.take(alloc, prover, form, logging, limit) {
+        Ok(taken) => {
+            if is_block_too_long(taken.block.as_slice()) {
+                return Err(RunFault::Memory);
+            }
+            Ok(taken)
+        }
+        Err(_) => Err(RunFault::Memory),
+    }
 }
 
 /// The last line of the log, where the whole file was run.
@@ -348,9 +377,8 @@ fn finish<O: Sink, L: Sink>(
     ensures ok { OnOk result (Appends (O.written comment.old) (O.written comment.new)
         (closing_lines (ending_of fault) (totals_in progress.counts))) }
     ensures log_ok { OnOk result (Logs progress.log.logging (L.written log.old) (L.written log.new) (last_text (ending_of fault))) }
-    ensures err { OnErr result (GrowsWithin (O.written comment.old) (O.written comment.new)
-        (closing_lines (ending_of fault) (totals_in progress.counts))) }
-    ensures log_err { OnErr result (LogsWithin progress.log.logging (L.written log.old) (L.written log.new) (last_text (ending_of fault))) }
+    ensures fails { OnErr result (WriteFails progress.log.logging (closing_lines (ending_of fault) (totals_in progress.counts)) (last_text (ending_of fault))
+        (held_in (O.written comment.old) (L.written log.old)) (held_in (O.written comment.new) (L.written log.new))) }
     ensures small { OnOk result (progress.log.logging ≡ true → progress.log.count + length (last_text (ending_of fault)) < 2 ^ 62) }
     ensures full { result ≡ Err RunFault.TooLong → (progress.log.logging ≡ true) × (2 ^ 62 ≤ progress.log.count + length (last_text (ending_of fault)))
         × Keeps (O.written comment.old) (O.written comment.new) × (L.written log.new ≡ L.written log.old) }
@@ -366,8 +394,7 @@ fn finish<O: Sink, L: Sink>(
         Ok(text) => text,
         Err(_) => return Err(RunFault::Memory),
     };
-    write_text(comment, text.as_slice())?;
-    progress.log.append(log, last)?;
+    write_last(comment, text.as_slice(), log, progress.log, last)?;
     Ok(Ended {
         counts: progress.counts,
         fault,

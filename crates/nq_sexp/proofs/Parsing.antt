@@ -47,23 +47,23 @@ at-rest (Some x) (Some y) t P c f = subst P (sym c) (f y refl)
 fault-met : (base code place : ℕ) (text : List ℕ) (fs : Forms) → fs ≡ end → Faulty base 500 (2 ^ 25 - base) text fs (fault code place) → IsFaultAt base text code place
 fault-met base code place text fs e f = (f.0, f.1, subst (λ (z : Forms). Reads 500 (2 ^ 25 - base) text z (fault code f.0)) e f.2)
 
-stops-met : (base : ℕ) (text : List ℕ) (new : Held) (left : Option (List ℕ)) (s : State) (fs : Forms) (why : ReadFault) → StopsAs s fs why → fs ≡ end → ((e : Ending) → s ≡ stopped fs e → Faulty base 500 (2 ^ 25 - base) text fs e) → IsMet base text new left why
-stops-met base text new left s fs (Unbalanced place) h e f = fault-met base 1 place text fs e (f (fault 1 place) h)
-stops-met base text new left s fs (BadToken place) h e f = fault-met base 2 place text fs e (f (fault 2 place) h)
-stops-met base text new left s fs (NumeralTooWide place) h e f = fault-met base 3 place text fs e (f (fault 3 place) h)
-stops-met base text new left s fs (TooDeep place) h e f = fault-met base 4 place text fs e (f (fault 4 place) h)
-stops-met base text new left s fs FileTooLong h e f = absurd h
-stops-met base text new left s fs Read h e f = absurd h
-stops-met base text new left s fs Memory h e f = tt
+stops-met : (old : Held) (text : List ℕ) (new : Held) (left : Option (List ℕ)) (s : State) (fs : Forms) (why : ReadFault) → StopsAs s fs why → fs ≡ end → ((e : Ending) → s ≡ stopped fs e → Faulty old.at 500 (2 ^ 25 - old.at) text fs e) → IsMet old text new left why
+stops-met old text new left s fs (Unbalanced place) h e f = fault-met old.at 1 place text fs e (f (fault 1 place) h)
+stops-met old text new left s fs (BadToken place) h e f = fault-met old.at 2 place text fs e (f (fault 2 place) h)
+stops-met old text new left s fs (NumeralTooWide place) h e f = fault-met old.at 3 place text fs e (f (fault 3 place) h)
+stops-met old text new left s fs (TooDeep place) h e f = fault-met old.at 4 place text fs e (f (fault 4 place) h)
+stops-met old text new left s fs FileTooLong h e f = absurd h
+stops-met old text new left s fs Read h e f = absurd h
+stops-met old text new left s fs Memory h e f = tt
 
-ends-met : (A : Type 0) (base : ℕ) (text : List ℕ) (new : Held) (left : Option (List ℕ)) (fs : Forms) (e : Ending) (why : ReadFault) → EndsAs {A = A} e (Err why) → fs ≡ end → Comes base 500 (2 ^ 25 - base) text fs e → IsMet base text new left why
-ends-met A base text new left fs e (Unbalanced place) h q c = fault-met base 1 place text fs q (subst (λ (z : Ending). Comes base 500 (2 ^ 25 - base) text fs z) h c)
-ends-met A base text new left fs e (BadToken place) h q c = fault-met base 2 place text fs q (subst (λ (z : Ending). Comes base 500 (2 ^ 25 - base) text fs z) h c)
-ends-met A base text new left fs e (NumeralTooWide place) h q c = fault-met base 3 place text fs q (subst (λ (z : Ending). Comes base 500 (2 ^ 25 - base) text fs z) h c)
-ends-met A base text new left fs e (TooDeep place) h q c = fault-met base 4 place text fs q (subst (λ (z : Ending). Comes base 500 (2 ^ 25 - base) text fs z) h c)
-ends-met A base text new left fs e FileTooLong h q c = absurd h
-ends-met A base text new left fs e Read h q c = absurd h
-ends-met A base text new left fs e Memory h q c = tt
+ends-met : (A : Type 0) (old : Held) (text : List ℕ) (new : Held) (left : Option (List ℕ)) (fs : Forms) (e : Ending) (why : ReadFault) → EndsAs {A = A} e (Err why) → fs ≡ end → Comes old.at 500 (2 ^ 25 - old.at) text fs e → IsMet old text new left why
+ends-met A old text new left fs e (Unbalanced place) h q c = fault-met old.at 1 place text fs q (subst (λ (z : Ending). Comes old.at 500 (2 ^ 25 - old.at) text fs z) h c)
+ends-met A old text new left fs e (BadToken place) h q c = fault-met old.at 2 place text fs q (subst (λ (z : Ending). Comes old.at 500 (2 ^ 25 - old.at) text fs z) h c)
+ends-met A old text new left fs e (NumeralTooWide place) h q c = fault-met old.at 3 place text fs q (subst (λ (z : Ending). Comes old.at 500 (2 ^ 25 - old.at) text fs z) h c)
+ends-met A old text new left fs e (TooDeep place) h q c = fault-met old.at 4 place text fs q (subst (λ (z : Ending). Comes old.at 500 (2 ^ 25 - old.at) text fs z) h c)
+ends-met A old text new left fs e FileTooLong h q c = absurd h
+ends-met A old text new left fs e Read h q c = absurd h
+ends-met A old text new left fs e Memory h q c = tt
 
 mark_end-forms : (frames : List Frame) (fs : Forms) → (mark_end frames fs).forms ≡ outer frames fs
 mark_end-forms [] fs = refl
@@ -248,7 +248,7 @@ module _ {S : Type 0} (left : S → Option (List ℕ)) where
 
   -- the source failed, or the file is too long
   look-met : (old new : Held) (before after : S) (t : List ℕ) (k : Stack) (m : Mode) (why : ReadFault) → Taken left old before new after t → Standing old.at 500 k m t → outer_of k ≡ end → IsLookFault new why
-      → IfSome (ahead old (left before)) (λ rest. IsMet old.at rest new (left after) why)
+      → IfSome (ahead old (left before)) (λ rest. IsMet old rest new (left after) why)
   look-met old new before after t k m (Unbalanced place) x s o f = absurd f
   look-met old new before after t k m (BadToken place) x s o f = absurd f
   look-met old new before after t k m (NumeralTooWide place) x s o f = absurd f
@@ -256,46 +256,55 @@ module _ {S : Type 0} (left : S → Option (List ℕ)) where
   look-met old new before after t k m Memory x s o f = absurd f
   look-met old new before after t k m Read x s o f =
       let held : Holds 500 t end = subst (λ (z : Forms). Holds 500 t z) o (standing-holds old.at 500 0 k m t s) in
-      at-rest (ahead old (left before)) (ahead new (left after)) t (λ (z : List ℕ). IsMet old.at z new (left after) Read) x.known
-      (λ r e. (t, held, f, subst (λ (z : Option (List ℕ)). Consumes (Some (t ++ r)) z t) (sym e ∙ none_in_hand new (left after) f) refl))
+      at-rest (ahead old (left before)) (ahead new (left after)) t (λ (z : List ℕ). IsMet old z new (left after) Read) x.known
+      (λ r e. record {
+        text = t;
+        holds = held;
+        none = f;
+        taken = subst (λ (z : Option (List ℕ)). Consumes (Some (t ++ r)) z t) (sym e ∙ none_in_hand new (left after) f) refl;
+        first = elim x.asked [
+          | inl same ↦ ([], sym (same.1 ∙ ap (λ (z : List ℕ). t ++ z) f ∙ append-nil t) ∙ sym (append-nil old.bytes))
+          | inr more ↦ more
+        ];
+      })
   look-met old new before after t k m FileTooLong x s o f =
       let held : Holds 500 t end = subst (λ (z : Forms). Holds 500 t z) o (standing-holds old.at 500 0 k m t s) in
       let full : length t ≡ 2 ^ 25 - old.at = omega (arith, x.count, f.0) in
-      at-rest (ahead old (left before)) (ahead new (left after)) t (λ (z : List ℕ). IsMet old.at z new (left after) FileTooLong) x.known
+      at-rest (ahead old (left before)) (ahead new (left after)) t (λ (z : List ℕ). IsMet old z new (left after) FileTooLong) x.known
       (λ r e.
       let told = ahead_rest new.bytes (left after) r e in
       let begun : r ≡ (f.1).0 ∷ (((f.1).1).0 ++ told.0) = told.2 ∙ ap (λ (z : List ℕ). z ++ told.0) ((f.1).1).1 in
       subst (λ (z : List ℕ). Reads 500 (2 ^ 25 - old.at) (t ++ z) end too_long) (sym begun) (past (f.1).0 (((f.1).1).0 ++ told.0) held full))
 
-  pub start-met : (old new : Held) (before after : S) (why : ReadFault) → Taken left old before new after [] → IsLookFault new why → IfSome (ahead old (left before)) (λ rest. IsMet old.at rest new (left after) why)
+  pub start-met : (old new : Held) (before after : S) (why : ReadFault) → Taken left old before new after [] → IsLookFault new why → IfSome (ahead old (left before)) (λ rest. IsMet old rest new (left after) why)
   start-met old new before after why x f =
       let k : Stack = record { frames = []; forms = end; depth = 500 } in look-met old new before after [] k (word 0 []) why x (standing-start old k (word 0 []) refl refl) refl f
 
   pub stepped-met : (old new last : Held) (before after later : S) (k : Stack) (m : Mode) (why : ReadFault) → Stepped old before new after k m → outer_of k ≡ end → Taken left new after last later [] → IsLookFault last why
-      → IfSome (ahead old (left before)) (λ rest. IsMet old.at rest last (left later) why)
+      → IfSome (ahead old (left before)) (λ rest. IsMet old rest last (left later) why)
   stepped-met old new last before after later k m why s o x f = look-met old last before later s.text k m why (taken-looked left old new last before after later s.text s.taken x) s.standing o f
 
   -- a token is a fault
   pub settle-met : (old new : Held) (before after : S) (k : Stack) (m : Mode) (following : Option ℕ) (why : ReadFault) → Parsing old before new after k m following → StopsAs (settled (ends_token following) k m) (outer_of k) why
-      → IfSome (ahead old (left before)) (λ rest. IsMet old.at rest new (left after) why)
+      → IfSome (ahead old (left before)) (λ rest. IsMet old rest new (left after) why)
   settle-met old new before after k m following why p h =
-      at-rest (ahead old (left before)) (ahead new (left after)) p.text (λ (z : List ℕ). IsMet old.at z new (left after) why) (p.taken).known
+      at-rest (ahead old (left before)) (ahead new (left after)) p.text (λ (z : List ℕ). IsMet old z new (left after) why) (p.taken).known
       (λ r e.
       let is = coming-rest new (left after) following r p.coming e in
-      stops-met old.at (p.text ++ r) new (left after) (settled (ends_token following) k m) (outer_of k) why h p.outside
+      stops-met old (p.text ++ r) new (left after) (settled (ends_token following) k m) (outer_of k) why h p.outside
       (λ f g. settled-fault old.at (2 ^ 25 - old.at) p.text following (ends_token following) k m r (outer_of k) f refl p.standing is (seen-of old new before after p.text r following p.taken p.coming is) g))
 
   -- the next byte shows a fault
   pub step-met : (old new : Held) (before after : S) (k : Stack) (m : Mode) (b : ℕ) (why : ReadFault) → Settled old before new after k m (Some b) → outer_of k ≡ end → StopsAs (stepped new.at k m b) (outer_of k) why
-      → IfSome (ahead old (left before)) (λ rest. IsMet old.at rest new (left after) why)
+      → IfSome (ahead old (left before)) (λ rest. IsMet old rest new (left after) why)
   step-met old new before after k m b why s o h =
       let below = below-of old new before after s.text s.taken (s.coming).1 in
-      at-rest (ahead old (left before)) (ahead new (left after)) s.text (λ (z : List ℕ). IsMet old.at z new (left after) why) (s.taken).known
+      at-rest (ahead old (left before)) (ahead new (left after)) s.text (λ (z : List ℕ). IsMet old z new (left after) why) (s.taken).known
       (λ r e.
       let is = coming-rest new (left after) (Some b) r s.coming e in
       let joined : (s.text ++ b ∷ []) ++ is.0 ≡ s.text ++ r = append_assoc s.text (b ∷ []) is.0 ∙ ap (λ (z : List ℕ). s.text ++ z) (sym is.1) in
-      subst (λ (z : List ℕ). IsMet old.at z new (left after) why) joined
-      (stops-met old.at ((s.text ++ b ∷ []) ++ is.0) new (left after) (stepped new.at k m b) (outer_of k) why h o
+      subst (λ (z : List ℕ). IsMet old z new (left after) why) joined
+      (stops-met old ((s.text ++ b ∷ []) ++ is.0) new (left after) (stepped new.at k m b) (outer_of k) why h o
       (λ f g. stopped-fault (stepped (old.at + length s.text) k m b) f is.0 (stepped-right old.at (2 ^ 25 - old.at) k s.text b below m s.ready) (ap (λ (z : ℕ). stepped z k m b) (sym (s.taken).count) ∙ g))))
     where
       stopped-fault : (x : State) (f : Ending) (more : List ℕ) → IsRight old.at 500 (2 ^ 25 - old.at) (s.text ++ b ∷ []) x → x ≡ stopped (outer_of k) f → Faulty old.at 500 (2 ^ 25 - old.at) ((s.text ++ b ∷ []) ++ more) (outer_of k) f
@@ -303,13 +312,13 @@ module _ {S : Type 0} (left : S → Option (List ℕ)) where
 
   -- the end is a fault, or not
   pub finish-met : (A : Type 0) (old new : Held) (before after : S) (k : Stack) (m : Mode) (why : ReadFault) → Settled old before new after k m None → outer_of k ≡ end → EndsAs {A = A} (finish kind_of (live k m)).ending (Err why)
-      → IfSome (ahead old (left before)) (λ rest. IsMet old.at rest new (left after) why)
+      → IfSome (ahead old (left before)) (λ rest. IsMet old rest new (left after) why)
   finish-met A old new before after k m why s o h =
-      at-rest (ahead old (left before)) (ahead new (left after)) s.text (λ (z : List ℕ). IsMet old.at z new (left after) why) (s.taken).known
+      at-rest (ahead old (left before)) (ahead new (left after)) s.text (λ (z : List ℕ). IsMet old z new (left after) why) (s.taken).known
       (λ r e.
       let none_left : s.text ≡ s.text ++ r = sym (append-nil s.text) ∙ ap (λ (z : List ℕ). s.text ++ z) (sym (coming-rest new (left after) None r s.coming e)) in
-      subst (λ (z : List ℕ). IsMet old.at z new (left after) why) none_left
-      (ends-met A old.at s.text new (left after) end (finish kind_of (live k m)).ending why h refl (ready-comes old.at (2 ^ 25 - old.at) k s.text m s.ready o (room-of old new before after s.text s.taken))))
+      subst (λ (z : List ℕ). IsMet old z new (left after) why) none_left
+      (ends-met A old s.text new (left after) end (finish kind_of (live k m)).ending why h refl (ready-comes old.at (2 ^ 25 - old.at) k s.text m s.ready o (room-of old new before after s.text s.taken))))
 
   pub finish-none : (old new : Held) (before after : S) (k : Stack) (m : Mode) → Settled old before new after k m None → outer_of k ≡ end → (finish kind_of (live k m)).ending ≡ done
       → IfSome (ahead old (left before)) (λ rest. Reads 500 (2 ^ 25 - old.at) rest end done)

@@ -4,14 +4,16 @@ use Rattle.std.specs.Prelude.{◌⊎◌, Option, None, Some, IfSome, IsTrue}
 use Rattle.std.specs.Io.KnownBytes.{Consumes, IsAtEnd, prepend_known}
 use Rattle.std.proofs.lemmas.Grind.{common_steps}
 use Rattle.nq_form.specs.Form.{Form, Forms, end, next, append, push}
-use Rattle.nq_sexp.specs.Held.{Held, ahead, IsNext}
+use Rattle.nq_sexp.specs.Held.{Held, ahead, Begins, IsNext}
 use Rattle.nq_form.specs.Bytes.{is_closed, begins_apart}
 use Rattle.nq_form.specs.Kinds.{kind_of}
-use Rattle.nq_form.specs.Grammar.{shifted, Items, none, Holds, holds, Seam, Reads, Ending, done, fault, too_long}
-use Rattle.nq_sexp.specs.Halt.{IsApart, IsMet, IsFound}
-use Rattle.nq_sexp.specs.Whole.{Split, SoFar, IsEnding}
+use Rattle.nq_form.specs.Grammar.{shifted, Items, none, Holds, holds, Seam, Reads, Ending, done, fault, too_long, past}
+use Rattle.nq_sexp.specs.Halt.{IsApart, IsCut, IsMet, IsFound}
+use Rattle.nq_sexp.specs.Whole.{IsSeen, Split, SoFar, IsEnding, OneListWhereReadsFail}
 use Rattle.nq_sexp.specs.declared.fault.ReadFault.{ReadFault}
 use Rattle.nq_sexp.specs.declared.fault.ReadFault.TheVariants.{Unbalanced, BadToken, NumeralTooWide, TooDeep, FileTooLong, Read, Memory}
+use Rattle.std.proofs.lemmas.List.{append_cancel_right}
+use Rattle.nq_form.proofs.OneReading.{one_reading}
 use Rattle.nq_form.proofs.Forms.{append-end, append-push}
 use Rattle.nq_form.proofs.Naming.{named, dot_kind}
 use Rattle.nq_form.proofs.Seams.{joins, open-join, reads-join}
@@ -30,14 +32,17 @@ plain (inr h) = inr h.0
 
 -- what stands behind a form
 form_ended : (held : Held) (left : Option (List ℕ)) (u rest : List ℕ) → ahead held left ≡ Some rest → IsTrue (is_closed u) ⊎ ((following : Option ℕ) × IsNext held left following × IsApart u following)
-    → IsTrue (is_closed u) ⊎ (IsTrue (begins_apart rest) × ((rest ≡ []) ⊎ (held.at < 2 ^ 25)))
+    → IsTrue (is_closed u) ⊎ (IsTrue (begins_apart rest) × IsSeen held rest)
 form_ended held left u rest e (inl k) = inl k
 form_ended held left u rest e (inr k) = ended_by k.0 k.1 k.2
   where
     told : (xs : List ℕ) × (left ≡ Some xs) × (rest ≡ held.bytes ++ xs)
     told = ahead_rest held.bytes left rest e
 
-    ended_by : (following : Option ℕ) → IsNext held left following → IsApart u following → IsTrue (is_closed u) ⊎ (IsTrue (begins_apart rest) × ((rest ≡ []) ⊎ (held.at < 2 ^ 25)))
+    in_hand : (b : ℕ) → Begins held b → 0 < length held.bytes
+    in_hand b h = subst (λ (z : List ℕ). 0 < length z) (sym h.1) (omega arith)
+
+    ended_by : (following : Option ℕ) → IsNext held left following → IsApart u following → IsTrue (is_closed u) ⊎ (IsTrue (begins_apart rest) × IsSeen held rest)
     ended_by None n a =
         let at_end : told.0 ≡ [] = subst (λ (z : Option (List ℕ)). IsAtEnd z) told.1 n.1 in
         let no_rest : rest ≡ [] = told.2 ∙ ap (λ (z : List ℕ). z ++ told.0) n.0 ∙ at_end in
@@ -45,33 +50,36 @@ form_ended held left u rest e (inr k) = ended_by k.0 k.1 k.2
     ended_by (Some b) n (inl k) = inl k
     ended_by (Some b) n (inr k) =
         let begun : rest ≡ b ∷ (n.0.0 ++ told.0) = told.2 ∙ ap (λ (z : List ℕ). z ++ told.0) n.0.1 in
-        inr (subst (λ (z : List ℕ). IsTrue (begins_apart z)) (sym begun) k, inr n.1)
+        inr (subst (λ (z : List ℕ). IsTrue (begins_apart z)) (sym begun) k, inr (n.1, in_hand b n.0))
 
-seam-more : (t u r : List ℕ) (at later : ℕ) → IsTrue (is_closed t) ⊎ (IsTrue (begins_apart (u ++ r)) × (((u ++ r) ≡ []) ⊎ (at < 2 ^ 25))) → later ≡ at + length u
-    → IsTrue (is_closed u) ⊎ (IsTrue (begins_apart r) × ((r ≡ []) ⊎ (later < 2 ^ 25))) → IsTrue (is_closed (t ++ u)) ⊎ (IsTrue (begins_apart r) × ((r ≡ []) ⊎ (later < 2 ^ 25)))
-seam-more t (b ∷ u) r at later k e (inl h) = inl (closed-append t u b h)
-seam-more t (b ∷ u) r at later k e (inr h) = inr h
-seam-more t [] r at later (inl k) e h = inl (subst (λ (z : List ℕ). IsTrue (is_closed z)) (sym (append-nil t)) k)
-seam-more t [] r at later (inr k) e h = let same : later ≡ at = omega (arith, e) in inr (subst (λ (z : ℕ). IsTrue (begins_apart r) × ((r ≡ []) ⊎ (z < 2 ^ 25))) (sym same) k)
+seam-more : (t u r : List ℕ) (new : Held) → (u ≡ [] → ⊥) → IsTrue (is_closed u) ⊎ (IsTrue (begins_apart r) × IsSeen new r)
+    → IsTrue (is_closed (t ++ u)) ⊎ (IsTrue (begins_apart r) × IsSeen new r)
+seam-more t [] r new some h = absurd (some refl)
+seam-more t (b ∷ u) r new some (inl h) = inl (closed-append t u b h)
+seam-more t (b ∷ u) r new some (inr h) = inr h
+
+-- the text of a form is not empty
+form_some : (u : List ℕ) (form : Form) → Items 500 u (next form end) → u ≡ [] → ⊥
+form_some u form q e =
+    let no_form : next form end ≡ end = items-nothing kind_of 0 named dot_kind 500 (next form end) (subst (λ (z : List ℕ). Items 500 z (next form end)) e q) in cc
 
 one_more : (fs : Forms) (f : Form) → append fs (next f end) ≡ push fs f
 one_more fs f = append-push fs end f ∙ ap (λ (z : Forms). push z f) (append-end fs)
 
-split-more : (all : List ℕ) (at later : ℕ) (now then : Option (List ℕ)) (u : List ℕ) (fs : Forms) (f : Form) → Split all at now fs → Consumes now then u → Items 500 u (next f end) → later ≡ at + length u → later ≤ 2 ^ 25
-    → ((r : List ℕ) → then ≡ Some r → IsTrue (is_closed u) ⊎ (IsTrue (begins_apart r) × ((r ≡ []) ⊎ (later < 2 ^ 25)))) → Split all later then (push fs f)
-split-more all at later now then u fs f s c q e h ended =
+split-more : (all : List ℕ) (old new : Held) (now then : Option (List ℕ)) (u : List ℕ) (fs : Forms) (f : Form) → Split all old now fs → Consumes now then u → Items 500 u (next f end) → new.at ≡ old.at + length u → new.at ≤ 2 ^ 25
+    → ((r : List ℕ) → then ≡ Some r → IsTrue (is_closed u) ⊎ (IsTrue (begins_apart r) × IsSeen new r)) → Split all new then (push fs f)
+split-more all old new now then u fs f s c q e h ended =
     let after = consumed_rest now then s.rest u s.known c in
-    let seam : IsTrue (is_closed s.text) ⊎ (IsTrue (begins_apart (u ++ after.0)) × (((u ++ after.0) ≡ []) ⊎ (at < 2 ^ 25))) =
-    subst (λ (z : List ℕ). IsTrue (is_closed s.text) ⊎ (IsTrue (begins_apart z) × ((z ≡ []) ⊎ (at < 2 ^ 25)))) after.2 s.seam in
+    let seam : IsTrue (is_closed s.text) ⊎ IsTrue (begins_apart (u ++ after.0)) = subst (λ (z : List ℕ). IsTrue (is_closed s.text) ⊎ IsTrue (begins_apart z)) after.2 (plain s.seam) in
     record {
       text = s.text ++ u;
       rest = after.0;
       known = after.1;
       whole = s.whole ∙ ap (λ (z : List ℕ). s.text ++ z) after.2 ∙ sym (append_assoc s.text u after.0);
-      spelled = subst (λ (z : Forms). Items 500 (s.text ++ u) z) (one_more fs f) (joins 500 s.text u fs (next f end) s.spelled q (apart-front s.text u after.0 (plain seam)));
+      spelled = subst (λ (z : Forms). Items 500 (s.text ++ u) z) (one_more fs f) (joins 500 s.text u fs (next f end) s.spelled q (apart-front s.text u after.0 seam));
       count = grind (arith, common_steps, e, s.count);
       within = h;
-      seam = seam-more s.text u after.0 at later seam e (ended after.0 after.1);
+      seam = seam-more s.text u after.0 new (form_some u f q) (ended after.0 after.1);
     }
 
 -- before the first form
@@ -96,7 +104,7 @@ module _ {S : Type 0} (left : S → Option (List ℕ)) (start : Option (List ℕ
       grown : (start : Option (List ℕ)) → SoFar start old (left before) fs → SoFar start new (left after) (push fs form)
       grown None s = tt
       grown (Some all) s =
-          split-more all old.at new.at (ahead old (left before)) (ahead new (left after)) f.text fs form s (f.taken).known (f.is).spelled (f.taken).count (f.taken).within
+          split-more all old new (ahead old (left before)) (ahead new (left after)) f.text fs form s (f.taken).known (f.is).spelled (f.taken).count (f.taken).within
           (λ r e. form_ended new (left after) f.text r e (f.is).ended)
 
   -- a form takes at least one byte
@@ -107,23 +115,23 @@ module _ {S : Type 0} (left : S → Option (List ℕ)) (start : Option (List ℕ
       longer [] p e = let no_form : next form end ≡ end = items-nothing kind_of 0 named dot_kind 500 (next form end) p in cc
       longer (b ∷ text) p e = grind (arith, common_steps, e)
 
-read_more : (all : List ℕ) (at : ℕ) (now : Option (List ℕ)) (fs : Forms) (e : Ending) → Split all at now fs → IfSome now (λ rest. Reads 500 (2 ^ 25 - at) rest end e) → Reads 500 (2 ^ 25) all fs (shifted at e)
-read_more all at now fs e s r =
-    let rest_reads : Reads 500 (2 ^ 25 - at) s.rest end e = subst (λ (z : Option (List ℕ)). IfSome z (λ rest. Reads 500 (2 ^ 25 - at) rest end e)) s.known r in
-    let room : length s.text + (2 ^ 25 - at) ≡ 2 ^ 25 = omega (arith, s.count, s.within) in
-    let joined = reads-join 500 (2 ^ 25) (2 ^ 25 - at) s.text s.rest fs end e s.spelled rest_reads room (room_seam s.text s.rest at s.seam) in
+read_more : (all : List ℕ) (held : Held) (now : Option (List ℕ)) (fs : Forms) (e : Ending) → Split all held now fs → IfSome now (λ rest. Reads 500 (2 ^ 25 - held.at) rest end e) → Reads 500 (2 ^ 25) all fs (shifted held.at e)
+read_more all held now fs e s r =
+    let rest_reads : Reads 500 (2 ^ 25 - held.at) s.rest end e = subst (λ (z : Option (List ℕ)). IfSome z (λ rest. Reads 500 (2 ^ 25 - held.at) rest end e)) s.known r in
+    let room : length s.text + (2 ^ 25 - held.at) ≡ 2 ^ 25 = omega (arith, s.count, s.within) in
+    let joined = reads-join 500 (2 ^ 25) (2 ^ 25 - held.at) s.text s.rest fs end e s.spelled rest_reads room (room_seam s.text s.rest s.seam) in
     subst (λ (z : ℕ). Reads 500 (2 ^ 25) all fs (shifted z e)) (sym s.count)
     (subst (λ (z : List ℕ). Reads 500 (2 ^ 25) z fs (shifted (length s.text) e)) (sym s.whole) (subst (λ (z : Forms). Reads 500 (2 ^ 25) (s.text ++ s.rest) z (shifted (length s.text) e)) (append-end fs) joined))
   where
-    room_seam : (t r : List ℕ) (at : ℕ) → IsTrue (is_closed t) ⊎ (IsTrue (begins_apart r) × ((r ≡ []) ⊎ (at < 2 ^ 25))) → IsTrue (is_closed t) ⊎ (IsTrue (begins_apart r) × ((r ≡ []) ⊎ (0 < 2 ^ 25 - at)))
-    room_seam t r at (inl h) = inl h
-    room_seam t r at (inr h) = inr (h.0, elim h.1 [ inl e ↦ inl e | inr lt ↦ inr (omega (arith, lt)) ])
+    room_seam : (t r : List ℕ) → IsTrue (is_closed t) ⊎ (IsTrue (begins_apart r) × IsSeen held r) → IsTrue (is_closed t) ⊎ (IsTrue (begins_apart r) × ((r ≡ []) ⊎ (0 < 2 ^ 25 - held.at)))
+    room_seam t r (inl h) = inl h
+    room_seam t r (inr h) = inr (h.0, elim h.1 [ inl e ↦ inl e | inr seen ↦ let below = seen.0 in inr (omega (arith, below)) ])
 
 -- the end was met
 pub so_far-end : (start : Option (List ℕ)) (held : Held) (left : Option (List ℕ)) (fs : Forms) → SoFar start held left fs → IfSome (ahead held left) (λ rest. Reads 500 (2 ^ 25 - held.at) rest end done)
     → IfSome start (λ all. Reads 500 (2 ^ 25) all fs done)
 so_far-end None held left fs s r = tt
-so_far-end (Some all) held left fs s r = read_more all held.at (ahead held left) fs done s r
+so_far-end (Some all) held left fs s r = read_more all held (ahead held left) fs done s r
 
 seam-holds : (t v x : List ℕ) → Seam v x → IsTrue (is_closed t) ⊎ (IsTrue (begins_apart (v ++ x)) × (0 < length (v ++ x))) → Seam (t ++ v) x
 seam-holds t (b ∷ v) x (inl c) k = inl (closed-append t v b c)
@@ -136,43 +144,70 @@ holds-join levels t u fs gs p (holds {s = s} {o = o} {d = d} {n = n} {t = v} {v 
     subst (λ (z : List ℕ). Holds levels z (append fs gs)) (append_assoc t v x)
     (holds (open-join s o d n levels t v fs gs p q m (apart-front t v x (plain k))) m (seam-holds t v x i k) g)
 
-read_cut : (all t rest : List ℕ) (at : ℕ) (fs : Forms) (after : Option (List ℕ)) (u : List ℕ) → all ≡ t ++ rest → Items 500 t fs → IsTrue (is_closed t) ⊎ (IsTrue (begins_apart rest) × ((rest ≡ []) ⊎ (at < 2 ^ 25)))
-    → Holds 500 u end → Consumes (Some rest) after u → IsEnding all fs after Read
-read_cut all t rest at fs None u e p s h c = absurd c
-read_cut all t rest at fs (Some more) [] e p (inr s) h c =
-    let same : rest ≡ more = c in (t, more, e ∙ ap (λ (z : List ℕ). t ++ z) same, refl, inr (p, subst (λ (z : List ℕ). IsTrue (begins_apart z)) same s.0))
-read_cut all t rest at fs (Some more) [] e p (inl s) h c =
-    (t ++ [], more, e ∙ ap (λ (z : List ℕ). t ++ z) c ∙ ap (λ (z : List ℕ). z ++ more) (sym (append-nil t)), refl, inl (subst (λ (z : Forms). Holds 500 (t ++ []) z) (append-end fs) (holds-join 500 t [] fs end p h (inl s))))
-read_cut all t rest at fs (Some more) (b ∷ u) e p s h c =
-    let seam : IsTrue (is_closed t) ⊎ IsTrue (begins_apart (b ∷ u)) = apart-front t (b ∷ u) more (plain (subst (λ (z : List ℕ). IsTrue (is_closed t) ⊎ (IsTrue (begins_apart z) × ((z ≡ []) ⊎ (at < 2 ^ 25)))) c s)) in (
-      t ++ b ∷ u,
-      more,
-      e ∙ ap (λ (z : List ℕ). t ++ z) c ∙ sym (append_assoc t (b ∷ u) more),
-      refl,
-      inl (subst (λ (z : Forms). Holds 500 (t ++ b ∷ u) z) (append-end fs) (holds-join 500 t (b ∷ u) fs end p h (elim seam [ inl k ↦ inl k | inr k ↦ inr (k, omega arith) ]))),
-    )
+read_cut : (all : List ℕ) (held new : Held) (now after : Option (List ℕ)) (fs : Forms) → (s : Split all held now fs) → IsCut held s.rest new after → IsEnding all fs after Read
+read_cut all held new now after fs s cut = go after cut.text cut.holds cut.taken cut.first
+  where
+    whole_end : (more : List ℕ) → s.rest ≡ more → all ≡ (s.text ++ []) ++ more
+    whole_end more e = s.whole ∙ ap (λ (z : List ℕ). s.text ++ z) e ∙ ap (λ (z : List ℕ). z ++ more) (sym (append-nil s.text))
 
-fault_at : (all : List ℕ) (at code place : ℕ) (now : Option (List ℕ)) (fs : Forms) → Split all at now fs → IfSome now (λ rest. (k : ℕ) × (place ≡ at + k) × Reads 500 (2 ^ 25 - at) rest end (fault code k))
+    -- no byte was taken
+    alone : (more : List ℕ) → s.rest ≡ more → Holds 500 [] end → held.bytes ≡ [] → IsTrue (is_closed s.text) ⊎ (IsTrue (begins_apart s.rest) × IsSeen held s.rest) → IsEnding all fs (Some more) Read
+    alone more e h empty (inl k) = (s.text ++ [], more, whole_end more e, refl, inl (subst (λ (z : Forms). Holds 500 (s.text ++ []) z) (append-end fs) (holds-join 500 s.text [] fs end s.spelled h (inl k))))
+    alone more e h empty (inr (k, inl at_end)) = (s.text, more, s.whole ∙ ap (λ (z : List ℕ). s.text ++ z) e, refl, inr (s.spelled, sym e ∙ at_end))
+    alone more e h empty (inr (k, inr in_hand)) = absurd (let some = in_hand.1 in omega (arith, some, ap length empty))
+
+    nothing_before : (xs ys : List ℕ) → [] ≡ xs ++ ys → xs ≡ []
+    nothing_before [] ys e = refl
+    nothing_before (x ∷ xs) ys e = cc
+
+    go : (after : Option (List ℕ)) (u : List ℕ) → Holds 500 u end → Consumes (Some s.rest) after u → (more : List ℕ) × (u ≡ held.bytes ++ more) → IsEnding all fs after Read
+    go None u h c first = absurd c
+    go (Some more) [] h c first = alone more c h (nothing_before held.bytes first.0 first.1) s.seam
+    go (Some more) (b ∷ u) h c first =
+        let seam : IsTrue (is_closed s.text) ⊎ IsTrue (begins_apart (b ∷ u)) = apart-front s.text (b ∷ u) more (subst (λ (z : List ℕ). IsTrue (is_closed s.text) ⊎ IsTrue (begins_apart z)) c (plain s.seam)) in (
+          s.text ++ b ∷ u,
+          more,
+          s.whole ∙ ap (λ (z : List ℕ). s.text ++ z) c ∙ sym (append_assoc s.text (b ∷ u) more),
+          refl,
+          inl (subst (λ (z : Forms). Holds 500 (s.text ++ b ∷ u) z) (append-end fs) (holds-join 500 s.text (b ∷ u) fs end s.spelled h (elim seam [ inl k ↦ inl k | inr k ↦ inr (k, omega arith) ]))),
+        )
+
+fault_at : (all : List ℕ) (held : Held) (code place : ℕ) (now : Option (List ℕ)) (fs : Forms) → Split all held now fs → IfSome now (λ rest. (k : ℕ) × (place ≡ held.at + k) × Reads 500 (2 ^ 25 - held.at) rest end (fault code k))
     → Reads 500 (2 ^ 25) all fs (fault code place)
-fault_at all at code place now fs s r =
-    let met : (k : ℕ) × (place ≡ at + k) × Reads 500 (2 ^ 25 - at) s.rest end (fault code k) =
-    subst (λ (z : Option (List ℕ)). IfSome z (λ rest. (k : ℕ) × (place ≡ at + k) × Reads 500 (2 ^ 25 - at) rest end (fault code k))) s.known r in
+fault_at all held code place now fs s r =
+    let met : (k : ℕ) × (place ≡ held.at + k) × Reads 500 (2 ^ 25 - held.at) s.rest end (fault code k) =
+    subst (λ (z : Option (List ℕ)). IfSome z (λ rest. (k : ℕ) × (place ≡ held.at + k) × Reads 500 (2 ^ 25 - held.at) rest end (fault code k))) s.known r in
     subst (λ (z : ℕ). Reads 500 (2 ^ 25) all fs (fault code z)) (sym met.1)
-    (read_more all at now fs (fault code met.0) s (subst (λ (z : Option (List ℕ)). IfSome z (λ rest. Reads 500 (2 ^ 25 - at) rest end (fault code met.0))) (sym s.known) met.2))
+    (read_more all held now fs (fault code met.0) s (subst (λ (z : Option (List ℕ)). IfSome z (λ rest. Reads 500 (2 ^ 25 - held.at) rest end (fault code met.0))) (sym s.known) met.2))
 
 -- a fault was met
 pub so_far-fault : (start : Option (List ℕ)) (held new : Held) (left after : Option (List ℕ)) (fs : Forms) (e : ReadFault) → SoFar start held left fs
-    → IfSome (ahead held left) (λ rest. IsMet held.at rest new after e) → IfSome start (λ all. IsEnding all fs after e)
+    → IfSome (ahead held left) (λ rest. IsMet held rest new after e) → IfSome start (λ all. IsEnding all fs after e)
 so_far-fault None held new left after fs e s r = tt
-so_far-fault (Some all) held new left after fs (Unbalanced place) s r = fault_at all held.at 1 place (ahead held left) fs s r
-so_far-fault (Some all) held new left after fs (BadToken place) s r = fault_at all held.at 2 place (ahead held left) fs s r
-so_far-fault (Some all) held new left after fs (NumeralTooWide place) s r = fault_at all held.at 3 place (ahead held left) fs s r
-so_far-fault (Some all) held new left after fs (TooDeep place) s r = fault_at all held.at 4 place (ahead held left) fs s r
-so_far-fault (Some all) held new left after fs FileTooLong s r = read_more all held.at (ahead held left) fs too_long s r
+so_far-fault (Some all) held new left after fs (Unbalanced place) s r = fault_at all held 1 place (ahead held left) fs s r
+so_far-fault (Some all) held new left after fs (BadToken place) s r = fault_at all held 2 place (ahead held left) fs s r
+so_far-fault (Some all) held new left after fs (NumeralTooWide place) s r = fault_at all held 3 place (ahead held left) fs s r
+so_far-fault (Some all) held new left after fs (TooDeep place) s r = fault_at all held 4 place (ahead held left) fs s r
+so_far-fault (Some all) held new left after fs FileTooLong s r = read_more all held (ahead held left) fs too_long s r
 so_far-fault (Some all) held new left after fs Read s r =
-    let met = subst (λ (z : Option (List ℕ)). IfSome z (λ rest. IsMet held.at rest new after Read)) s.known r in
-    read_cut all s.text s.rest held.at fs after met.0 s.whole s.spelled s.seam met.1 met.3
+    read_cut all held new (ahead held left) after fs s (subst (λ (z : Option (List ℕ)). IfSome z (λ rest. IsMet held rest new after Read)) s.known r)
 so_far-fault (Some all) held new left after fs Memory s r = tt
+
+-- what was taken, where bytes are left, is known, and so are the forms in it
+pub one_list_law : OneListWhereReadsFail
+one_list_law all fs gs byte more p q =
+    let left_one : p.1 ≡ byte ∷ more = cc in
+    let left_two : q.1 ≡ byte ∷ more = cc in
+    let one : all ≡ p.0 ++ (byte ∷ more) = p.2 ∙ ap (λ (z : List ℕ). p.0 ++ z) left_one in
+    let two : all ≡ q.0 ++ (byte ∷ more) = q.2 ∙ ap (λ (z : List ℕ). q.0 ++ z) left_two in
+    let same : q.0 ≡ p.0 = append_cancel_right q.0 p.0 (byte ∷ more) (sym two ∙ one) in
+    let first : Holds 500 p.0 fs = held_so p.0 p.1 fs left_one p.4 in
+    let second : Holds 500 p.0 gs = subst (λ (z : List ℕ). Holds 500 z gs) same (held_so q.0 q.1 gs left_two q.4) in
+    (one_reading 500 (length p.0) (p.0 ++ byte ∷ more) fs gs too_long too_long (past byte more first refl) (past byte more second refl)).0
+  where
+    held_so : (taken rest : List ℕ) (forms : Forms) → rest ≡ byte ∷ more → Holds 500 taken forms ⊎ (Items 500 taken forms × (rest ≡ [])) → Holds 500 taken forms
+    held_so taken rest forms some (inl h) = h
+    held_so taken rest forms some (inr h) = let none : byte ∷ more ≡ [] = sym some ∙ h.1 in cc
 
 pub some_forms : (start left : Option (List ℕ)) (fs : Forms) (e : ReadFault) → IfSome start (λ all. IsEnding all fs left e) → IfSome start (λ all. (forms : Forms) × IsEnding all forms left e)
 some_forms None left fs e h = tt

@@ -22,15 +22,23 @@ IsLookFault new Memory = ⊥
 abbrev pub IsFaultAt : ℕ → List ℕ → ℕ → ℕ → Type 0
 IsFaultAt at rest code place = (k : ℕ) × (place ≡ at + k) × Reads 500 (2 ^ 25 - at) rest end (fault code k)
 
--- The text ahead has no form more, and this fault is met in it. Or reading it failed: no byte that was taken is in hand, and they hold no whole form.
-abbrev pub IsMet : ℕ → List ℕ → Held → Option (List ℕ) → ReadFault → Type 0
-IsMet at rest new left (Unbalanced place) = IsFaultAt at rest 1 place
-IsMet at rest new left (BadToken place) = IsFaultAt at rest 2 place
-IsMet at rest new left (NumeralTooWide place) = IsFaultAt at rest 3 place
-IsMet at rest new left (TooDeep place) = IsFaultAt at rest 4 place
-IsMet at rest new left FileTooLong = Reads 500 (2 ^ 25 - at) rest end too_long
-IsMet at rest new left Read = (text : List ℕ) × Holds 500 text end × (new.bytes ≡ []) × Consumes (Some rest) left text
-IsMet at rest new left Memory = Unit {0}
+-- Reading failed: the bytes in hand were taken before the source was asked, none is in hand, and those that were taken hold no whole form.
+pub record IsCut (held : Held) (rest : List ℕ) (new : Held) (left : Option (List ℕ)) : Type 0 where
+  pub text : List ℕ
+  pub holds : Holds 500 text end
+  pub none : new.bytes ≡ []
+  pub taken : Consumes (Some rest) left text
+  pub first : (more : List ℕ) × (text ≡ held.bytes ++ more)
+
+-- The text ahead has no form more, and this fault is met in it. Or reading it failed.
+abbrev pub IsMet : Held → List ℕ → Held → Option (List ℕ) → ReadFault → Type 0
+IsMet held rest new left (Unbalanced place) = IsFaultAt held.at rest 1 place
+IsMet held rest new left (BadToken place) = IsFaultAt held.at rest 2 place
+IsMet held rest new left (NumeralTooWide place) = IsFaultAt held.at rest 3 place
+IsMet held rest new left (TooDeep place) = IsFaultAt held.at rest 4 place
+IsMet held rest new left FileTooLong = Reads 500 (2 ^ 25 - held.at) rest end too_long
+IsMet held rest new left Read = IsCut held rest new left
+IsMet held rest new left Memory = Unit {0}
 
 -- A token that ends a text isn't carried on by the byte that comes next.
 abbrev pub IsApart : List ℕ → Option ℕ → Type 0

@@ -21,7 +21,7 @@ mod stack;
 mod token;
 
 pub use fault::ReadFault;
-pub use reader::{Reader, read_all};
+pub use reader::{Reader, failed_reads_have_one_list, read_all};
 
 /// A form, in an arena.
 #[derive(Clone, Copy)]

@@ -6,7 +6,7 @@ ghost use Rattle.nq_form.specs.Grammar.{Reads, done};
 ghost use Rattle.nq_sexp.specs.Held.{ahead, IsNext, Taken};
 ghost use Rattle.nq_sexp.specs.Halt.{IsLookFault, IsMet, IsFound};
 ghost use Rattle.nq_sexp.specs.Tree.{tree, trees};
-ghost use Rattle.nq_sexp.specs.Whole.{IsEnding};
+ghost use Rattle.nq_sexp.specs.Whole.{IsEnding, OneListWhereReadsFail};
 
 use crate::input::{Input, LIMIT};
 use crate::scan::{Mode, finish, settle, step};
@@ -50,7 +50,7 @@ fn read_form<'a, S: Source>(
 ) -> Result<Option<Sexp<'a>>, ReadFault>
     ensures form { IfOk result (λ found. IfSome found (λ form. IsFound S.left input.old source.old input.new source.new (tree form))) }
     ensures none { IfOk result (λ found. IfNone found (IfSome (ahead input.old (S.left source.old)) (λ rest. Reads 500 (2 ^ 25 - input.old.at) rest end done))) }
-    ensures fault { IfErr result (λ fault. IfSome (ahead input.old (S.left source.old)) (λ rest. IsMet input.old.at rest input.new (S.left source.new) fault)) }
+    ensures fault { IfErr result (λ fault. IfSome (ahead input.old (S.left source.old)) (λ rest. IsMet input.old rest input.new (S.left source.new) fault)) }
     ensures later { S.faults source.old ≤ S.faults source.new }
     ensures read { IsErrOf result ReadFault.Read → Rose (S.faults source.old) (S.faults source.new) }
 {
@@ -121,7 +121,7 @@ impl Reader {
         requires { IsTrue self.old.live }
         ensures form { IfOk result (λ found. IfSome found (λ form. IsFound S.left self.old.held source.old self.new.held source.new (tree form))) }
         ensures none { IfOk result (λ found. IfNone found (IfSome (ahead self.old.held (S.left source.old)) (λ rest. Reads 500 (2 ^ 25 - self.old.held.at) rest end done))) }
-        ensures fault { IfErr result (λ fault. IfSome (ahead self.old.held (S.left source.old)) (λ rest. IsMet self.old.held.at rest self.new.held (S.left source.new) fault)) }
+        ensures fault { IfErr result (λ fault. IfSome (ahead self.old.held (S.left source.old)) (λ rest. IsMet self.old.held rest self.new.held (S.left source.new) fault)) }
         ensures live { self.new.live ≡ is_ok result }
         ensures later { S.faults source.old ≤ S.faults source.new }
         ensures read { IsErrOf result ReadFault.Read → Rose (S.faults source.old) (S.faults source.new) }
@@ -148,3 +148,9 @@ pub fn read_all<'a, S: Source>(
     }
     Ok(forms)
 }
+
+/// Where a read failed before the end of the text, the forms that stand whole in the bytes taken are one list: a symbol or
+/// numeral at their end is no form yet, since the next byte may carry it on.
+pub fn failed_reads_have_one_list()
+    ensures { OneListWhereReadsFail }
+{}

@@ -11,3 +11,6 @@ pub mod HintSpelling
 pub mod ToggleSpelling
 pub mod OutlineSpelling
 pub mod EventSpelling
+pub mod SymbolNames
+pub mod UsableFunctions
+pub mod ReadBack

@@ -1,3 +1,4 @@
 pub mod Spelled
 pub mod SpelledTerms
 pub mod SpelledEvents
+pub mod ReadBack

@@ -1,6 +1,8 @@
-//! What a log can spell: the terms and the events of forms that are read of a text. Laws, no code.
+//! What a log can spell: the terms and the events of forms that are read of a text. And that the text of a term over the
+//! functions of a run's history is read back as that term. Laws, no code.
 #![tactic(auto)]
 
+ghost use Rattle.nq_spelling.specs.ReadBack.{FormsGrowHistories, GrownIsUsable, PrintedIsReadBack};
 ghost use Rattle.nq_spelling.specs.SpelledEvents.{EventsAreSpelled, FewNamesBegin, FewNamesGrow, FewNamesStay, ShellsBringFewNames};
 ghost use Rattle.nq_spelling.specs.SpelledTerms.{TermsAreSpelled, DefinitionTermsAreSpelled};
 
@@ -17,4 +19,12 @@ pub fn events_are_spelled()
     ensures grow { FewNamesGrow }
     ensures shells { ShellsBringFewNames }
     ensures stay { FewNamesStay }
+{}
+
+/// The histories of a run grow by events whose functions have new, unreserved names that are symbols in upper case. The text of
+/// a term over the functions of such a history spells one form, whose translation in that history is the term.
+pub fn printed_is_read_back()
+    ensures grow { FormsGrowHistories }
+    ensures usable { GrownIsUsable }
+    ensures back { PrintedIsReadBack }
 {}

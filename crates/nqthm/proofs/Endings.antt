@@ -15,7 +15,7 @@ use Rattle.nq_comment.specs.Reports.{Report}
 use Rattle.nq_comment.specs.Totals.{Totals, totals_of, unsuccessful}
 use Rattle.nq_comment.specs.ReportViews.{ending_of}
 use Rattle.nq_comment.specs.declared.report.SyntaxFault.{SyntaxFault}
-use Rattle.nq_check.specs.Outcomes.{Answers, Checks, IsChecked}
+use Rattle.nq_check.specs.Outcomes.{Answers, Checks, IsChecked, IsCutInClaims}
 use Rattle.nq_check.specs.declared.verdict.Checked.{Checked}
 use Rattle.nq_check.specs.declared.verdict.Checked.TheVariants as checked
 use Rattle.nq_check.specs.declared.verdict.CheckFault.{CheckFault}
@@ -208,17 +208,15 @@ has_checked start held now r status is checks = record {
 
 -- before anything was read or written
 pub untouched_checked : (start held : Option (List ℕ)) → HasChecked start held held 6
-untouched_checked start held = has_checked start held held (Err check.Memory) 6 refl (record {
-  reading = reading_by built_step [];
-  read = nothing_read start;
-  text = inl (0, Appends-nil held);
-  sound = tt;
-})
+untouched_checked start held = has_checked start held held (Err check.Memory) 6 refl (inl cut)
   where
     nothing_read : (start : Option (List ℕ))
         → IfSome start (λ text. (taken : List ℕ) × (more : List ℕ) × (text ≡ taken ++ more) × (reading_by built_step taken ≡ reading_by built_step []))
     nothing_read None = tt
     nothing_read (Some text) = ([], text, refl, refl)
+
+    cut : IsCutInClaims built_step start held held
+    cut = record { reading = reading_by built_step []; read = nothing_read start; text = (0, Appends-nil held); sound = tt }
 
 -- ---- the usage line
 

@@ -25,7 +25,7 @@ pub record HasRun (logging : Bool) (start left : Option (List ℕ)) (held now : 
   -- the lines of all forms that stand whole in what was read were written
   pub read : status ≡ 4 → Halted logging start left Read held now
   pub too_long : status ≡ 7 → Halted logging start left FileTooLong held now ⊎ ((logging ≡ true) × Full start held now)
-  -- a front part of such lines, or of a whole commentary, was written
+  -- a front part of such lines, or of a whole commentary, was written, and of their log: its last line is the last write of all
   pub stopped : status ≡ 5 → Stopped logging start held now
   pub memory : status ≡ 6 → Stopped logging start held now
   -- the ending of the text leaves no other status but those of failures, of memory, and of a full log

@@ -45,7 +45,7 @@ const NO_MEMORY: u8 = 6;
 /// - 3: the spelling of the file is wrong.
 /// - 4: `src` could not be read.
 /// - 5: `out` or `side` could not be written.
-/// - 6: memory is wanting.
+/// - 6: memory is wanting, or a block of a log would have more than 2^40 bytes.
 /// - 7: the file has more than 2^25 bytes; a log would reach 2^62 bytes, or has more.
 ///
 /// In each outcome of `run` and `log` a lemma reported as proved is derivable in the history before it, and the log that was

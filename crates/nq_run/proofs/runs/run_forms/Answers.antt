@@ -51,7 +51,7 @@ returns-in_err-turn-in-Ok-Some-clause-full g c e =
     let logging = sym c.loop-form.invariant.7 ∙ full.0 in (
       logging,
       Ran-full start before.0 form (history_of c.loop-form.session) (totals_in c.loop-form.progress.counts) c.loop-form.progress.log.count _ _ _
-          (ran_as c.args.logging true _ _ _ _ _ _ logging before.2) (begun_of start c.next.new.self.held (left c.next.new.source) (push before.0 form) more) full.1,
+          (ran_as c.args.logging true _ _ _ _ _ _ logging before.2) (begun_of start c.next.new.self.held (left c.next.new.source) (push before.0 form) more) c.loop-form.invariant.8 full.1,
     )
 
 pub returns-in_err-turn-in-Ok-Some-clause-stopped : goal.returns-in_err-turn-in-Ok-Some-clause-stopped

@@ -4,6 +4,7 @@ use Rattle.nq_clause.specs.Substitution.{substitution_at}
 use Rattle.nq_proof.specs.Rules as tree
 use Rattle.nq_rule.specs.Inductions.{cases_at}
 use Rattle.nq_rule.specs.Sides.{side_of}
+use Rattle.nq_linear_rule.specs.Sums.{summands_at}
 use Rattle.nq_kernel.specs.Meaning.{rule_at}
 use Rattle.nq_block.specs.Writing.{WritesRule}
 use Rattle.nq_block.proofs.writer.Writer.rule.Goals as goal
@@ -26,6 +27,11 @@ pub returns-in-Replace-clause-rule : goal.returns-in-Replace-clause-rule
 returns-in-Replace-clause-rule c =
     subst (WritesRule c.args.bank.now c.args.self.now c.replaced.result c.replaced.new.self)
     (ap (λ path. tree.Replace c.in-Replace.line c.in-Replace.literal path (term_at c.args.bank.now c.in-Replace.t) (side_of c.in-Replace.side)) c.as_slice-in-Replace.ensures.value ∙ sym (ap (rule_at c.args.bank.now) c.in-Replace.is)) c.replaced.ensures.rule
+
+pub returns-in-Linear-clause-rule : goal.returns-in-Linear-clause-rule
+returns-in-Linear-clause-rule c =
+    subst (WritesRule c.args.bank.now c.args.self.now c.summed.result c.summed.new.self)
+    (ap (λ summands. tree.Linear (summands_at c.args.bank.now summands)) c.as_slice-in-Linear.ensures.value ∙ sym (ap (rule_at c.args.bank.now) c.in-Linear.is)) c.summed.ensures.rule
 
 pub returns-in-Induct-clause-rule : goal.returns-in-Induct-clause-rule
 returns-in-Induct-clause-rule c =

@@ -9,9 +9,11 @@ use Rattle.nq_rule.specs.Branches.{branches_at}
 use Rattle.nq_rule.specs.Places.{part_at}
 use Rattle.nq_rule.specs.Inductions.{cases_at}
 use Rattle.nq_rule.specs.Sides.{side_of}
+use Rattle.nq_proof.specs.Rules.{is_refuted}
+use Rattle.nq_linear_rule.specs.Sums.{summands_at}
 use Rattle.nq_kernel.specs.Lines.{ids_at}
 use Rattle.nq_kernel.specs.Meaning.{rule_at, clause_at}
-use Rattle.nq_kernel.proofs.Concluding.{is_some-mapped, taut_test, axiom_test, event_test, weaken_test, cut_test, instance_test, reflexive_test, replace_test, join_test, split_first_test, split_second_test, not_not_test, value_test, induct_test, induction_shown}
+use Rattle.nq_kernel.proofs.Concluding.{is_some-mapped, taut_test, axiom_test, event_test, weaken_test, cut_test, instance_test, reflexive_test, replace_test, join_test, split_first_test, split_second_test, not_not_test, value_test, linear_test, induct_test, induction_shown}
 use Rattle.nq_kernel.proofs.log.Log.allowed.Goals as goal
 
 pub returns-in-Taut : goal.returns-in-Taut
@@ -73,6 +75,11 @@ returns-in-NotNot c =
 
 pub returns-in-Value : goal.returns-in-Value
 returns-in-Value c = c.has_value-allowed.ensures ∙ value_test c.args.bank.now c.args.history.now c.args.self.now c.args.rule.now (term_at c.args.bank.now c.in-Value.t) (ap (rule_at c.args.bank.now) c.in-Value.is)
+
+pub returns-in_ok-allowed-in-Linear : goal.returns-in_ok-allowed-in-Linear
+returns-in_ok-allowed-in-Linear c =
+    c.in_ok-allowed-in-Linear.ensures ∙ ap (λ ss. is_refuted (summands_at c.args.bank.now ss)) c.as_slice-in-Linear.ensures.value ∙
+    linear_test c.args.bank.now c.args.history.now c.args.self.now c.args.rule.now (summands_at c.args.bank.now c.in-Linear.summands.items) (ap (rule_at c.args.bank.now) c.in-Linear.is)
 
 pub returns-in_ok-allowed-in-Induct : goal.returns-in_ok-allowed-in-Induct
 returns-in_ok-allowed-in-Induct c =

@@ -10,10 +10,12 @@ use Rattle.nq_rule.specs.Places.{part_at}
 use Rattle.nq_rule.specs.Results.{weaker_of, instance_of, replacement_of}
 use Rattle.nq_rule.specs.Inductions.{cases_at}
 use Rattle.nq_rule.specs.Sides.{side_of}
+use Rattle.nq_proof.specs.Rules.{is_refuted}
+use Rattle.nq_linear_rule.specs.Sums.{summands_at, linear_clause}
 use Rattle.nq_steps.proofs.NameLemmas.{no_names, AddsSymbols-refl}
 use Rattle.nq_kernel.specs.Lines.{ids_at}
 use Rattle.nq_kernel.specs.Meaning.{rule_at, is_axiom_row}
-use Rattle.nq_kernel.proofs.Concluding.{told, is_some-mapped, taut_is, axiom_test, axiom_is, event_test, event_is, weaken_test, weaken_is, cut_test, cut_is, instance_test, instance_is, reflexive_is, replace_stands, replace_leads, replace_is, join_test, join_is, split_first_test, split_first_is, split_second_test, split_second_is, not_not_test, not_not_is, value_test, value_is, induct_is}
+use Rattle.nq_kernel.proofs.Concluding.{told, is_some-mapped, taut_is, axiom_test, axiom_is, event_test, event_is, weaken_test, weaken_is, cut_test, cut_is, instance_test, instance_is, reflexive_is, replace_stands, replace_leads, replace_is, join_test, join_is, split_first_test, split_first_is, split_second_test, split_second_is, not_not_test, not_not_is, value_test, value_is, linear_test, linear_is, induct_is}
 use Rattle.nq_kernel.proofs.log.Log.conclude.Goals as goal
 
 pub term_of-requires-clause-entries : goal.term_of-requires-clause-entries
@@ -78,6 +80,11 @@ without_nots-requires-clause-nots c = not_not_test c.args.bank.now c.args.histor
 
 pub value_clause-requires-clause-value : goal.value_clause-requires-clause-value
 value_clause-requires-clause-value c = value_test c.args.bank.now c.args.history.now c.args.self.now c.args.rule.now (term_at c.args.bank.now c.in-Value.t) (ap (rule_at c.args.bank.now) c.in-Value.is) ∙ c.requires.allowed
+
+pub linear_clause-requires-clause-refuted : goal.linear_clause-requires-clause-refuted
+linear_clause-requires-clause-refuted c =
+    ap (λ ss. is_refuted (summands_at c.args.bank.now ss)) c.as_slice-in-Linear.ensures.value ∙
+    linear_test c.args.bank.now c.args.history.now c.args.self.now c.args.rule.now (summands_at c.args.bank.now c.in-Linear.summands.items) (ap (rule_at c.args.bank.now) c.in-Linear.is) ∙ c.requires.allowed
 
 pub returns-in-Taut-clause-ok : goal.returns-in-Taut-clause-ok
 returns-in-Taut-clause-ok c =
@@ -158,6 +165,11 @@ returns-in-Value-clause-ok c =
 pub returns-in-Value-clause-deep : goal.returns-in-Value-clause-deep
 returns-in-Value-clause-deep c = λ e. subst IsDeep (sym (value_is c.args.bank.now c.args.history.now c.args.self.now c.args.rule.now (term_at c.args.bank.now c.in-Value.t) (ap (rule_at c.args.bank.now) c.in-Value.is))) (c.value_clause.ensures.deep e)
 
+pub returns-in-Linear-clause-ok : goal.returns-in-Linear-clause-ok
+returns-in-Linear-clause-ok c =
+    let P : Option Clause → Type 0 = λ o. IfOk c.linear_clause.result (λ v. Concludes c.args.bank.now v.items o) in
+    subst P (ap (λ ss. linear_clause (summands_at c.args.bank.now ss)) c.as_slice-in-Linear.ensures.value ∙ sym (linear_is c.args.bank.now c.args.history.now c.args.self.now c.args.rule.now (summands_at c.args.bank.now c.in-Linear.summands.items) (ap (rule_at c.args.bank.now) c.in-Linear.is))) c.linear_clause.ensures.ok
+
 pub returns-in-Induct-clause-ok : goal.returns-in-Induct-clause-ok
 returns-in-Induct-clause-ok c =
     let P : Option Clause → Type 0 = λ o. IfOk c.clause_of_one-in-Induct.result (λ v. Concludes c.args.bank.now v.items o) in
@@ -204,6 +216,9 @@ returns-in-NotNot-clause-symbols c = AddsSymbols-refl c.args.bank.now
 
 pub returns-in-Value-clause-symbols : goal.returns-in-Value-clause-symbols
 returns-in-Value-clause-symbols c = no_names c.args.bank.now c.value_clause.new.bank c.value_clause.ensures.names
+
+pub returns-in-Linear-clause-symbols : goal.returns-in-Linear-clause-symbols
+returns-in-Linear-clause-symbols c = AddsSymbols-refl c.args.bank.now
 
 pub returns-in-Induct-clause-symbols : goal.returns-in-Induct-clause-symbols
 returns-in-Induct-clause-symbols c = AddsSymbols-refl c.args.bank.now

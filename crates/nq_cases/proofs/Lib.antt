@@ -1,0 +1,9 @@
+pub mod Gathering
+pub mod Steps
+pub mod Placed
+pub mod SplitLaws
+pub mod PathCounts
+pub mod CapLemmas
+pub mod FindLemmas
+pub mod ChoiceLemmas
+pub mod CaseLemmas

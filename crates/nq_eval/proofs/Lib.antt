@@ -1,0 +1,17 @@
+pub mod CostLemmas
+pub mod LineLemmas
+pub mod KnownLemmas
+pub mod ClosingLemmas
+pub mod EvaluationLemmas
+pub mod ReducingLemmas
+pub mod LoopLemmas
+pub mod RowLemmas
+pub mod TruthLemmas
+pub mod ChoiceLemmas
+pub mod SubstitutionLemmas
+pub mod CalledLemmas
+pub mod SizeLemmas
+pub mod DefinedLemmas
+pub mod OpeningLemmas
+pub mod ProvedLemmas
+pub mod FormalsLemmas

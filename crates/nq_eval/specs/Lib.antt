@@ -1,0 +1,14 @@
+pub mod Costs
+pub mod Lines
+pub mod Known
+pub mod Heads
+pub mod Gathered
+pub mod Opened
+pub mod Sides
+pub mod Answers
+pub mod Reducing
+pub mod Rows
+pub mod Truths
+pub mod Choices
+pub mod Measured
+pub mod Objects

@@ -1,0 +1,11 @@
+pub mod Steps
+pub mod Numbering
+pub mod SolverLaws
+pub mod Simplifications
+pub mod Candidates
+pub mod SpentGoals
+pub mod FailedLemma
+pub mod Matches
+pub mod Causes
+pub mod InductionCases
+pub mod DecidedLemmas

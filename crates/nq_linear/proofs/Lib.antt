@@ -1,0 +1,9 @@
+pub mod RowLemmas
+pub mod SumLemmas
+pub mod PairLemmas
+pub mod LineLemmas
+pub mod CountLemmas
+pub mod AnswerLemmas
+pub mod FaultLemmas
+pub mod RefutingLemmas
+pub mod CauseLemmas

@@ -1,0 +1,17 @@
+pub mod Among
+pub mod LineLemmas
+pub mod TermLemmas
+pub mod Chains
+pub mod PathLemmas
+pub mod EqualityLemmas
+pub mod ArgumentLemmas
+pub mod InstanceLemmas
+pub mod PairLemmas
+pub mod InsideLemmas
+pub mod SideLemmas
+pub mod MatchLemmas
+pub mod FactLemmas
+pub mod ManyLemmas
+pub mod BranchLemmas
+pub mod LawLemmas
+pub mod WeakenLemmas

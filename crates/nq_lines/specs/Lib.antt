@@ -1,0 +1,9 @@
+pub mod Lines
+pub mod Instances
+pub mod Inside
+pub mod Facts
+pub mod OwnTerms
+pub mod Arguments
+pub mod Branches
+pub mod Law
+pub mod Weakening

@@ -1,0 +1,13 @@
+pub mod Names
+pub mod Calls
+pub mod Walks
+pub mod OpeningLemmas
+pub mod AtomLemmas
+pub mod GoalLemmas
+pub mod DenialLemmas
+pub mod MatchLemmas
+pub mod OwnLemmas
+pub mod PartLemmas
+pub mod NormalLemmas
+pub mod SuggestingLemmas
+pub mod NumeralLemmas

@@ -1,0 +1,24 @@
+use Rattle.std.proofs.Common.{sym, ap, ◌∙◌, [], Some, arith}
+use Rattle.std.specs.Option.{option_map}
+use Rattle.nq_bank.specs.declared.node.Sym.{Sym}
+use Rattle.nq_bank.proofs.SoundLemmas.{text_at-ground}
+use Rattle.nq_history.specs.Events.{events_at}
+use Rattle.nq_events.specs.Inductions.{definition_if, suggests_of}
+use Rattle.nq_normal.specs.Definitions.{definition_at}
+use Rattle.nq_normal.proofs.numerals.zero_suggests.Goals as goal
+
+pub returns-in-Some : goal.returns-in-Some
+returns-in-Some c =
+    let s : Sym = record { 0 = 8 } in
+    let bank = c.args.bank.now in
+    let h = events_at bank c.args.history.now in
+    let found = sym (ap (λ x. definition_if h (Some x)) (text_at-ground bank s c.is_sound.ensures (omega arith))) ∙ (sym c.definition_of.ensures.is ∙ ap (option_map (definition_at bank)) c.in-Some.is) in
+    c.suggests_alone.ensures ∙ ap (λ o. suggests_of o []) (sym found)
+
+pub returns-in-None : goal.returns-in-None
+returns-in-None c =
+    let s : Sym = record { 0 = 8 } in
+    let bank = c.args.bank.now in
+    let h = events_at bank c.args.history.now in
+    let found = sym (ap (λ x. definition_if h (Some x)) (text_at-ground bank s c.is_sound.ensures (omega arith))) ∙ (sym c.definition_of.ensures.is ∙ ap (option_map (definition_at bank)) c.in-None.is) in
+    ap (λ o. suggests_of o []) (sym found)

@@ -1,0 +1,6 @@
+use Rattle.nq_bank.specs.Content.{term_at}
+use Rattle.nq_normal.proofs.PartLemmas.{numeral_plain}
+use Rattle.nq_normal.proofs.rules.is_implication.Goals as goal
+
+pub returns-in-Num : goal.returns-in-Num
+returns-in-Num c = numeral_plain (term_at c.args.bank.now c.args.t) c.in-Num.field-0 c.in-Num.ensures.head.1

@@ -1,0 +1,11 @@
+pub mod WayLemmas
+pub mod InsideLemmas
+pub mod SplittingLemmas
+pub mod RowLemmas
+pub mod WayLaws
+pub mod SimplifiedLemmas
+pub mod ChoosingLemmas
+pub mod BasisLemmas
+pub mod DenyingLemmas
+pub mod LeavingLemmas
+pub mod OutcomeLemmas

@@ -1,0 +1,12 @@
+-- Work has only grown.
+use Rattle.nq_kernel.specs.Growing.{WorkGrows}
+use Rattle.nq_simplify.specs.Simplified.{AreTermsIn, BasisStands}
+use Rattle.nq_simplify.proofs.turning.rewrite_first.Given as goal
+
+abbrev pub invariant-loop-at : goal.invariant-loop-at
+invariant-loop-at g l =
+    record {
+      grows : WorkGrows l.fn.history l.fn.work l.work;
+      basis : BasisStands l.fn.history l.work l.fn.basis;
+      terms : AreTermsIn l.fn.history l.work l.fn.goal;
+    }
