@@ -1,23 +1,23 @@
 -- Each closing line, written after a block.
 use Rattle.std.proofs.Common.{◌≡◌, ℕ, ◌<◌, ◌^◌, ◌==◌, ◌&&◌, Bool, true, false, Option, Some, None, List, [], ◌∷◌, if◌then◌else◌, map, length, refl, sym, ap, ◌∙◌, subst, arith}
 use Rattle.std.proofs.lemmas.Bool.{lt-ltb}
-use Rattle.std.specs.Prelude.{All, IsTrue, nat_lt, not, is_some}
+use Rattle.std.specs.Prelude.{All, IsTrue, nat_lt, not, is_some, is_none}
 use Rattle.nq_logtext.specs.Fields.{number, name}
 use Rattle.nq_logtext.specs.Symbols.{is_symbol}
 use Rattle.nq_logtext.specs.Lines.{Line, IsSpellable}
 use Rattle.nq_logtext.specs.Reading.{◌>>=◌}
 use Rattle.nq_logtext.specs.declared.word.Word.TheVariants as word
-use Rattle.nq_logic.specs.Terms.{Name, Term}
+use Rattle.nq_logic.specs.Terms.{Name, Symbol, Term}
 use Rattle.nq_logic.specs.Histories.{Event, Part, Declaration, Defines, Axiom, Lemma, Toggle}
 use Rattle.nq_logic.specs.Ground.{all_events}
-use Rattle.nq_logic.specs.Names.{is_in_use, event_in, looked_up}
+use Rattle.nq_logic.specs.Names.{are_distinct, is_in_use, event_in, looked_up}
 use Rattle.nq_bank.specs.declared.node.TermId.{TermId}
 use Rattle.nq_bank.specs.Content.{Content, term_at}
 use Rattle.nq_proof.specs.Rules.{CaseLines, Hypothesis, has_only}
 use Rattle.nq_log.specs.States.{CaseLine, CaseOf, HypothesisOf, is_empty, Block, State, Claim, Claims, Grounded, Adds, Undoes, only_when, term_at as block_term_at, variables_at}
 use Rattle.nq_log.specs.Sizes.{is_small}
 use Rattle.nq_log.specs.RuleLines.{substitution_at, grouped}
-use Rattle.nq_log.specs.ClosingLines.{has_room, is_plain, is_free, is_definition, is_measured, new_definition}
+use Rattle.nq_log.specs.ClosingLines.{has_room, is_plain, is_free, introduces, is_definition, is_measured, new_definition}
 use Rattle.nq_log.specs.Fields.{numbers_in as numbers_read}
 use Rattle.nq_logtext.specs.Views.{one_number}
 use Rattle.std.specs.List.{flat_map}
@@ -31,7 +31,7 @@ use Rattle.nq_log.proofs.Options.{bound, found_same}
 use Rattle.nq_block.specs.declared.writer.Writer.{Writer}
 use Rattle.nq_block.specs.Blocks.{IsBlock}
 use Rattle.nq_block.specs.Closings.{IsFree, CanAssume, CanShow, CanDefine, CanToggle}
-use Rattle.nq_block.specs.Writing.{Frame, state_of, line_clause, are_built_parts, IsWriting, IsWritten, IsVariableWritten, AddsLine, number_in}
+use Rattle.nq_block.specs.Writing.{Frame, state_of, line_clause, are_built_ahead, are_built_parts, is_built_function, IsWriting, IsWritten, IsVariableWritten, AddsLine, number_in}
 use Rattle.nq_block.proofs.Leading.{leads_out}
 use Rattle.nq_block.proofs.Named.{spelled_name, of_events, event_named}
 use Rattle.nq_block.proofs.RuleLemmas.{after, term_number, term_fits, names_found, names_fit}
@@ -57,14 +57,14 @@ nothing_waits block (HypothesisOf r pairs ∷ waiting) e =
 abbrev pub digit : Bool → ℕ
 digit b = if b then 1 else 0
 
-module _ (bank : Content) (frame : Frame) (old new : Writer) (v : IsWriting bank frame old) (parts : frame.parts ≡ []) (cases : frame.cases ≡ []) where
+module _ (bank : Content) (frame : Frame) (old new : Writer) (v : IsWriting bank frame old) (alone : frame.introduced ≡ None) (parts : frame.parts ≡ []) (cases : frame.cases ≡ []) where
   abbrev s : State
   s = state_of frame v.waiting v.terms
 
   plain : is_plain s.block ≡ true
   plain =
       let none : v.waiting ≡ [] = nothing_waits s.block v.waiting (v.cases ∙ ap (λ cs. Some ([], cs)) cases) in
-      ap (λ (ps : List Part). is_empty ps && is_empty v.waiting) parts ∙ ap is_empty none
+      ap (λ (o : Option Symbol). is_none o && is_empty frame.parts && is_empty v.waiting) alone ∙ ap (λ (ps : List Part). is_empty ps && is_empty v.waiting) parts ∙ ap is_empty none
 
   free : (x : Name) → IsFree frame.history x → is_free s x ≡ true
   free x can =
@@ -72,9 +72,12 @@ module _ (bank : Content) (frame : Frame) (old new : Writer) (v : IsWriting bank
       ∙ ap (λ b. b && not (is_in_use x frame.history)) can.room
       ∙ ap not can.unused
 
+  ahead : are_built_ahead s.block ≡ true
+  ahead = ap (λ (o : Option Symbol). is_built_function o && are_built_parts frame.parts) alone ∙ ap are_built_parts parts
+
   pub closed : (line : Line) (c : Claim) → IsSpellable line → (is_built_claim c ≡ true → IsBuilt line) → step s line ≡ Some (Claims c) → AddsLine line old new → IsBlock frame.history c new.text
   closed line c spellable built taken adds =
-      subst (IsBlock frame.history c) (sym (ap (λ (w : Writer). w.text) adds)) (leads_out old.text s line c v.leads spellable (λ e. (ap are_built_parts parts, built e)) taken)
+      subst (IsBlock frame.history c) (sym (ap (λ (w : Writer). w.text) adds)) (leads_out old.text s line c v.leads spellable (λ e. (ahead, built e)) taken)
 
   claimed_when : (b : Bool) (c : Claim) → b ≡ true → claimed (only_when b c) ≡ Some (Claims c)
   claimed_when b c e = ap (λ b. claimed (only_when b c)) e
@@ -171,7 +174,8 @@ module _ (bank : Content) (frame : Frame) (old new : Writer) (v : IsWriting bank
       let after_body : Term → Option Claim = λ body. numbers_read (flat_map one_number ms) >>= λ ns. variables_at s.block ns >>= defined body in
       let tail : Bool = is_definition s x xs u in
       let right : is_definition s x xs u ≡ true =
-      ap (λ b. b && has_variables xs u && is_measured s.block x xs u (mentions x u) None) can.distinct
+      ap (λ (o : Option Symbol). introduces o x (length xs) && are_distinct xs && has_variables xs u && is_measured s.block x xs u (mentions x u) None) alone
+      ∙ ap (λ b. b && has_variables xs u && is_measured s.block x xs u (mentions x u) None) can.distinct
       ∙ ap (λ b. b && is_measured s.block x xs u (mentions x u) None) can.within
       ∙ ap (λ b. is_measured s.block x xs u b None) can.plain in
       let taken : step s (after word.Defn (name x ∷ number k ∷ flat_map one_number ms)) ≡ Some (Claims c) =

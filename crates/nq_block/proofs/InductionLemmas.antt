@@ -34,7 +34,7 @@ use Rattle.nq_proof.proofs.TermTests.{each_left, each_right}
 use Rattle.nq_rule.specs.declared.induction.InductionStep.{InductionStep}
 use Rattle.nq_rule.specs.declared.induction.CaseOfInduction.{CaseOfInduction}
 use Rattle.nq_rule.specs.Inductions.{hypothesis_at, hypotheses_at, case_at, cases_at as tree_cases_at}
-use Rattle.nq_block.specs.Writing.{Frame, block_of, state_of, line_clause, has_clause, with_line, with_case, with_hypotheses, CanSuppose, CanDistinguish, with_hypothesis, IsWriting, IsWritten, IsPairWritten, AddsLine, line_text, number_in, binding_in}
+use Rattle.nq_block.specs.Writing.{Frame, Concludes, block_of, state_of, line_clause, has_clause, with_line, with_case, with_hypotheses, CanSuppose, CanDistinguish, with_hypothesis, IsWriting, IsWritten, IsPairWritten, AddsLine, line_text, number_in, binding_in}
 use Rattle.nq_block.proofs.Leading.{leads_on}
 use Rattle.nq_block.proofs.Spelling.{pair_of, pairs_spelled, pairs_read}
 use Rattle.nq_log.proofs.Options.{bound}
@@ -75,6 +75,7 @@ module _ (bank : Content) (frame : Frame) (old new : Writer) (v : IsWriting bank
         fits = v.fits;
         of_terms = v.of_terms;
         of_variables = v.of_variables;
+        new = v.new;
         names = v.names;
         sound = v.sound;
       } in
@@ -112,7 +113,7 @@ module _ (bank : Content) (frame : Frame) (old new : Writer) (v : IsWriting bank
 
   -- the cases are used up
   pub induct_written : (p m : TermId) (o b i j : ℕ) (c : Clause) → o < 2 ^ 64 → b < 2 ^ 64 → IsWritten old p → IsWritten old m → i ≡ number_in old.terms p.0 → j ≡ number_in old.terms m.0 → are_shallow c ≡ true →
-      conclusion frame.history (line_clause frame) (Induct (term_at bank p) (term_at bank m) o b frame.cases) ≡ Some c →
+      Concludes frame (Induct (term_at bank p) (term_at bank m) o b frame.cases) c →
       AddsLine (after word.Induct (number i ∷ number j ∷ number o ∷ number b ∷ [])) old new → IsWriting bank (with_line (record frame { cases = [] }) c) new
   induct_written p m o b i j c o_fits b_fits first second of_p of_m low concluded adds =
       let pn : ℕ = number_in old.terms p.0 in
@@ -138,6 +139,7 @@ module _ (bank : Content) (frame : Frame) (old new : Writer) (v : IsWriting bank
         fits = v.fits;
         of_terms = v.of_terms;
         of_variables = v.of_variables;
+        new = v.new;
         names = v.names;
         sound = v.sound;
       } in
@@ -145,7 +147,7 @@ module _ (bank : Content) (frame : Frame) (old new : Writer) (v : IsWriting bank
 
 -- ---- what an induction that is allowed tells of its lines
 
-shown_line : (frame : Frame) (n : ℕ) (these : List Term) → has_only (line_clause frame n) these ≡ true → has_clause frame.clauses n ≡ true
+pub shown_line : (frame : Frame) (n : ℕ) (these : List Term) → has_only (line_clause frame n) these ≡ true → has_clause frame.clauses n ≡ true
 shown_line frame n these e = by_found (numbered frame.clauses n) e
   where
     by_found : (o : Option (Option (List Term))) → has_only (o >>= λ o. o) these ≡ true → is_some o ≡ true

@@ -10,7 +10,7 @@ use Rattle.nq_log.specs.Blocks.{lines_text}
 use Rattle.nq_log.specs.Built.{IsBuilt, is_built_claim}
 use Rattle.nq_log.proofs.Growing.{one_more_line_law, closing_line_law, more_text_law}
 use Rattle.nq_block.specs.Blocks.{IsBlock}
-use Rattle.nq_block.specs.Writing.{are_built_parts, LeadsTo, line_text}
+use Rattle.nq_block.specs.Writing.{are_built_ahead, LeadsTo, line_text}
 
 pub leads_first : (h : History) → LeadsTo [] (start_of h)
 leads_first h = record { lines = []; spellable = tt; state = refl; reads = refl; built = λ e. tt }
@@ -19,7 +19,7 @@ leads_first h = record { lines = []; spellable = tt; state = refl; reads = refl;
 text_on : (text : List ℕ) (lines : List Line) (line : Line) → text ≡ lines_text lines → text ++ line_text line ≡ lines_text (lines ++ (line ∷ []))
 text_on text lines line reads = ap (λ t. t ++ line_text line) reads ∙ sym (more_text_law lines (line ∷ []))
 
-pub leads_on : (text : List ℕ) (s : State) (line : Line) (block : Block) → LeadsTo text s → IsSpellable line → (are_built_parts block.parts ≡ true → (are_built_parts s.block.parts ≡ true) × IsBuilt line) →
+pub leads_on : (text : List ℕ) (s : State) (line : Line) (block : Block) → LeadsTo text s → IsSpellable line → (are_built_ahead block ≡ true → (are_built_ahead s.block ≡ true) × IsBuilt line) →
     step s line ≡ Some (Continues block) → LeadsTo (text ++ line_text line) (record s { block = block })
 leads_on text s line block w spellable built taken =
     record {
@@ -31,7 +31,7 @@ leads_on text s line block w spellable built taken =
     }
 
 -- a closing line makes them a block
-pub leads_out : (text : List ℕ) (s : State) (line : Line) (c : Claim) → LeadsTo text s → IsSpellable line → (is_built_claim c ≡ true → (are_built_parts s.block.parts ≡ true) × IsBuilt line) →
+pub leads_out : (text : List ℕ) (s : State) (line : Line) (c : Claim) → LeadsTo text s → IsSpellable line → (is_built_claim c ≡ true → (are_built_ahead s.block ≡ true) × IsBuilt line) →
     step s line ≡ Some (Claims c) → IsBlock s.history c (text ++ line_text line)
 leads_out text s line c w spellable built taken =
     record {

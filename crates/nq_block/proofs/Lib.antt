@@ -4,6 +4,7 @@ pub mod Numbering
 pub mod Spelling
 pub mod Named
 pub mod AxiomNames
+pub mod NewFunction
 pub mod TermParts
 pub mod Waiting
 pub mod Stepping
@@ -13,6 +14,7 @@ pub mod SumLemmas
 pub mod TermLemmas
 pub mod InductionLemmas
 pub mod ClosingLines
+pub mod RecursionLemmas
 pub mod ShellLemmas
 pub mod BlockLemmas
 pub mod OpenLaws

@@ -47,14 +47,17 @@ symbol_named s (e ∷ h) m =
       | inr there ↦ among_right s.0 (event_names e) (events_names h) (symbol_named s h there)
     ]
 
--- the name of a function of the history is spelled
-pub function_spelled : (h : History) (s : Symbol) → HasSymbols h → IsAmong s (symbols_of h) → IsTrue (is_symbol s.0)
+-- the name of a function of the history is one of its names, and is spelled
+pub function_named : (h : History) (s : Symbol) → IsAmong s (symbols_of h) → IsAmong s.0 (events_names (all_events h))
 unfolding symbols_of
-function_spelled h s w m =
+function_named h s m =
     elim (either_list s ground_symbols (events_symbols h) m) [
-      | inl here ↦ spelled_name h s.0 w (of_ground h s.0 (symbol_named s ground_history here))
-      | inr there ↦ spelled_name h s.0 w (of_events h s.0 (symbol_named s h there))
+      | inl here ↦ of_ground h s.0 (symbol_named s ground_history here)
+      | inr there ↦ of_events h s.0 (symbol_named s h there)
     ]
+
+pub function_spelled : (h : History) (s : Symbol) → HasSymbols h → IsAmong s (symbols_of h) → IsTrue (is_symbol s.0)
+function_spelled h s w m = spelled_name h s.0 w (function_named h s m)
 
 -- the name under which an axiom or lemma is found is one of the events' names
 pub term_named : (x : Name) (h : History) (t : Term) → event_term x h ≡ Some t → IsAmong x (events_names h)

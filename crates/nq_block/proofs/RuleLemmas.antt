@@ -29,7 +29,7 @@ use Rattle.nq_log.specs.RuleLines.{rule_line, side_of, substitution_at as block_
 use Rattle.nq_log.specs.Built.{IsBuilt}
 use Rattle.nq_log.specs.Logs.{step, continued}
 use Rattle.nq_block.specs.declared.writer.Writer.{Writer}
-use Rattle.nq_block.specs.Writing.{Frame, block_of, state_of, line_clause, with_line, IsWriting, IsWritten, IsVariableWritten, IsPairWritten, AddsLine, number_in, binding_in, term_of, variable_of}
+use Rattle.nq_block.specs.Writing.{Frame, Concludes as ConcludesIn, block_of, state_of, line_clause, with_line, IsWriting, IsWritten, IsVariableWritten, IsPairWritten, AddsLine, number_in, binding_in, term_of, variable_of}
 use Rattle.nq_block.proofs.Numbering.{AreWritten, numbers_in, number_found, number_within, terms_found, numbers_fit}
 use Rattle.nq_block.proofs.Spelling.{Fits, pair_of, run_spelled, run_read, pairs_spelled, pairs_read}
 use Rattle.nq_block.proofs.Named.{of_events, spelled_name, term_named}
@@ -98,7 +98,7 @@ module _ (bank : Content) (frame : Frame) (w : Writer) (v : IsWriting bank frame
 
 module _ (bank : Content) (frame : Frame) (old new : Writer) (c : Clause) (v : IsWriting bank frame old) (low : are_shallow c ≡ true) where
   abbrev Concludes : Rule → Type 0
-  Concludes rule = conclusion frame.history (line_clause frame) rule ≡ Some c
+  Concludes rule = ConcludesIn frame rule c
 
   abbrev block : Block
   block = block_of frame v.waiting v.terms
@@ -132,13 +132,13 @@ module _ (bank : Content) (frame : Frame) (old new : Writer) (c : Clause) (v : I
 
   pub axiom_written : (x : Name) (row i : ℕ) → row < 2 ^ 64 → i < 2 ^ 64 → Concludes (AxiomRow x row i) → AddsLine (after word.Axiom (name x ∷ number row ∷ number i ∷ [])) old new → IsWriting bank (with_line frame c) new
   axiom_written x row i row_fits fits concluded adds =
-      let found = given_some (axiom_clause frame.history x row i) (λ c. Some (distinct c)) c concluded in
+      let found = given_some (axiom_clause frame.history x row i) (λ c. Some (distinct c)) c concluded.clause in
       let spelled : IsTrue (is_symbol x) = spelled_name frame.history x v.names (axiom_named frame.history x row i found.0 found.1) in
       rule_written (after word.Axiom (name x ∷ number row ∷ number i ∷ [])) (Some (AxiomRow x row i)) (AxiomRow x row i) (spelled, (row_fits, (fits, tt))) refl refl refl concluded adds
 
   pub event_written : (x : Name) → Concludes (EventTerm x) → AddsLine (after word.Event (name x ∷ [])) old new → IsWriting bank (with_line frame c) new
   event_written x concluded adds =
-      let found = given_some (event_term x frame.history) (λ t. Some (t ∷ [])) c concluded in
+      let found = given_some (event_term x frame.history) (λ t. Some (t ∷ [])) c concluded.clause in
       let spelled : IsTrue (is_symbol x) = spelled_name frame.history x v.names (of_events frame.history x (term_named x frame.history found.0 found.1)) in
       rule_written (after word.Event (name x ∷ [])) (Some (EventTerm x)) (EventTerm x) (spelled, tt) refl refl refl concluded adds
 
@@ -215,5 +215,5 @@ module _ (bank : Content) (frame : Frame) (old new : Writer) (c : Clause) (v : I
       subst (λ ps. AddsLine (after word.Replace (number l ∷ number k ∷ path ps ∷ number m ∷ sign s ∷ [])) old new) copied
       (subst (λ n. AddsLine (after word.Replace (number l ∷ number k ∷ path copy ∷ number n ∷ sign s ∷ [])) old new) same adds) in
       rule_written (after word.Replace fields) (replace_rule block fields) (Replace l k places (term_at bank t) (side_of s))
-      (l_fits, (k_fits, (places_spelled (line_clause frame) frame.history l k places (term_at bank t) (side_of s) c fit concluded, (term_fits bank frame old v t written, (tt, tt))))) refl refl
+      (l_fits, (k_fits, (places_spelled (line_clause frame) frame.history l k places (term_at bank t) (side_of s) c fit concluded.clause, (term_fits bank frame old v t written, (tt, tt))))) refl refl
       (ap (λ (o : Option Term). o >>= λ t. Some (Replace l k places t (side_of s))) (term_number bank frame old v t written)) concluded whole

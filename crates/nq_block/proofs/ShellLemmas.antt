@@ -2,7 +2,7 @@
 use Rattle.std.proofs.Math.Seq.{take-suc}
 use Rattle.std.proofs.lemmas.List.{map_push}
 use Rattle.std.proofs.Common.{◌≡◌, ℕ, ◌+◌, ◌<◌, ◌&&◌, ◌||◌, Bool, true, false, Option, Some, None, List, [], ◌∷◌, ◌++◌, length, take, get_or, if◌then◌else◌, refl, sym, ap, ◌∙◌, subst, append_assoc, add-one}
-use Rattle.std.specs.Prelude.{IsTrue}
+use Rattle.std.specs.Prelude.{IsTrue, is_none}
 use Rattle.std.specs.List.{flat_map}
 use Rattle.nq_logtext.specs.Fields.{name, mode, of_name}
 use Rattle.nq_logtext.specs.Symbols.{is_symbol}
@@ -11,7 +11,7 @@ use Rattle.nq_logtext.specs.Views.{one_name}
 use Rattle.nq_logtext.specs.Reading.{◌>>=◌}
 use Rattle.nq_logtext.specs.declared.line.Mode.{Mode}
 use Rattle.nq_logtext.specs.declared.word.Word.TheVariants as word
-use Rattle.nq_logic.specs.Terms.{Name, Each}
+use Rattle.nq_logic.specs.Terms.{Name, Symbol, Each}
 use Rattle.nq_logic.specs.Histories.{Shell, AddShell, Part as TreePart}
 use Rattle.nq_logic.specs.ShellPrinciple.{listed}
 use Rattle.nq_proof.proofs.Tests.{and_left, and_right}
@@ -26,7 +26,7 @@ use Rattle.nq_log.specs.Logs.{step, continued, claimed}
 use Rattle.nq_block.specs.declared.writer.Writer.{Writer}
 use Rattle.nq_block.specs.Blocks.{IsBlock}
 use Rattle.nq_block.specs.Closings.{IsPartSpelled, IsBaseSpelled, CanAdd}
-use Rattle.nq_block.specs.Writing.{Frame, block_of, state_of, are_built_parts, with_part, IsWriting, AddsLine, line_text, base_text}
+use Rattle.nq_block.specs.Writing.{Frame, block_of, state_of, are_built_ahead, are_built_parts, is_built_function, with_part, IsWriting, AddsLine, line_text, base_text}
 use Rattle.nq_block.proofs.Leading.{leads_on, leads_out}
 use Rattle.nq_block.proofs.RuleLemmas.{after}
 use Rattle.nq_block.proofs.ClosingLines.{nothing_waits}
@@ -55,6 +55,10 @@ part_built : (parts : List TreePart) (part : TreePart) (b : Bool) → is_empty (
 part_built [] part b e = (refl, e)
 part_built (first ∷ parts) part b e = (e, e)
 
+part_ahead : (f : Bool) (parts : List TreePart) (part : TreePart) (b : Bool) → f && (is_empty (parts ++ (part ∷ [])) || b) ≡ true → (f && (is_empty parts || b) ≡ true) × (b ≡ true)
+part_ahead true parts part b e = part_built parts part b e
+part_ahead false parts part b e = absurd cc
+
 parts_built : (parts : List TreePart) (b : Bool) → b ≡ true → is_empty parts || b ≡ true
 parts_built [] b e = refl
 parts_built (first ∷ parts) b e = e
@@ -78,36 +82,40 @@ module _ (bank : Content) (frame : Frame) (old new : Writer) (v : IsWriting bank
       record {
         terms = v.terms;
         waiting = v.waiting;
-        leads = leads_on old.text s line (block_of (with_part frame part) v.waiting v.terms) v.leads (spelled.accessor, (tt, (spelled.default, names_spelled rs rs_spelled))) (part_built frame.parts part (is_built_word word.Part)) taken;
+        leads = leads_on old.text s line (block_of (with_part frame part) v.waiting v.terms) v.leads (spelled.accessor, (tt, (spelled.default, names_spelled rs rs_spelled))) (part_ahead (is_built_function frame.introduced) frame.parts part (is_built_word word.Part)) taken;
         cases = v.cases;
         count = v.count;
         fits = v.fits;
         of_terms = v.of_terms;
         of_variables = v.of_variables;
+        new = v.new;
         names = v.names;
         sound = v.sound;
       } in
       subst (IsWriting bank (with_part frame part)) (sym adds) grown
 
-  pub shell_closed : (shell : Shell) → frame.parts ≡ shell.parts → frame.cases ≡ [] → CanAdd frame.history shell →
+  pub shell_closed : (shell : Shell) → frame.introduced ≡ None → frame.parts ≡ shell.parts → frame.cases ≡ [] → CanAdd frame.history shell →
       AddsLine (after word.Shell (name shell.constructor ∷ name (base_text shell.base) ∷ name shell.recognizer ∷ [])) old new → IsBlock frame.history (Adds (AddShell shell)) new.text
-  shell_closed shell parts cases can adds =
+  shell_closed shell alone parts cases can adds =
       let line = after word.Shell (name shell.constructor ∷ name (base_text shell.base) ∷ name shell.recognizer ∷ []) in
       let c : Claim = Adds (AddShell shell) in
       let none : v.waiting ≡ [] = nothing_waits s.block v.waiting (v.cases ∙ ap (λ cs. Some ([], cs)) cases) in
       let made : List TreePart → Option Name → Shell = λ ps b. record { constructor = shell.constructor; base = b; recognizer = shell.recognizer; parts = ps } in
-      let result : Shell → Option Claim = λ x. only_when (is_empty v.waiting && has_room frame.history && is_shell_ok frame.history x) (Adds (AddShell x)) in
+      let result : Shell → Option Claim = λ x. only_when (is_none frame.introduced && is_empty v.waiting && has_room frame.history && is_shell_ok frame.history x) (Adds (AddShell x)) in
       let taken : step s line ≡ Some (Claims c) =
       ap (λ ps. claimed (result (made ps (base_of (base_text shell.base))))) parts
       ∙ ap (λ b. claimed (result (made shell.parts b))) (base_is shell.base can.base_spelled)
+      ∙ ap (λ (o : Option Symbol). claimed (only_when (is_none o && is_empty v.waiting && has_room frame.history && is_shell_ok frame.history shell) c)) alone
       ∙ ap (λ (w : List CaseLine). claimed (only_when (is_empty w && has_room frame.history && is_shell_ok frame.history shell) c)) none
       ∙ ap (λ b. claimed (only_when (b && is_shell_ok frame.history shell) c)) can.room
       ∙ ap (λ b. claimed (only_when b c)) can.accepted in
       subst (IsBlock frame.history c) (sym (ap (λ (w : Writer). w.text) adds)) (leads_out old.text s line c v.leads (can.constructor_spelled, (base_spelled shell.base can.base_spelled, (can.recognizer_spelled, tt))) all_built taken)
     where
-      all_built : is_built_word word.Shell && is_built_word word.Part ≡ true → (are_built_parts frame.parts ≡ true) × (is_built_word word.Shell ≡ true)
-      all_built e =
-          (parts_built frame.parts (is_built_word word.Part) (and_right (is_built_word word.Shell) (is_built_word word.Part) e), and_left (is_built_word word.Shell) (is_built_word word.Part) e)
+      all_built : is_built_word word.Shell && is_built_word word.Part ≡ true → (are_built_ahead s.block ≡ true) × (is_built_word word.Shell ≡ true)
+      all_built e = (
+        ap (λ (o : Option Symbol). is_built_function o && are_built_parts frame.parts) alone ∙ parts_built frame.parts (is_built_word word.Part) (and_right (is_built_word word.Shell) (is_built_word word.Part) e),
+        and_left (is_built_word word.Shell) (is_built_word word.Part) e,
+      )
 
       base_is : (b : Option Name) → IsBaseSpelled b → base_of (base_text b) ≡ b
       base_is None spelled = refl

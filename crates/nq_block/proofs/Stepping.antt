@@ -12,7 +12,6 @@ use Rattle.nq_logtext.specs.declared.word.Word.TheVariants as word
 use Rattle.nq_logic.specs.Terms.{Name, Term, Variable, Function, call}
 use Rattle.nq_logic.specs.Words.{numeral as numeral_term}
 use Rattle.nq_logic.specs.Sizes.{depth_of, depth_limit}
-use Rattle.nq_logic.specs.Ground.{symbols_of}
 use Rattle.nq_logic.specs.Names.{has_name, constant_names}
 use Rattle.nq_bank.specs.declared.node.TermId.{TermId}
 use Rattle.nq_bank.specs.Content.{Content, Stands, term_at, terms_at}
@@ -27,7 +26,7 @@ use Rattle.nq_log.specs.RuleLines.{are_without, with_clause, rule_line}
 use Rattle.nq_log.specs.Built.{IsBuilt}
 use Rattle.nq_log.specs.Logs.{step, continued}
 use Rattle.nq_block.specs.declared.writer.Writer.{Writer}
-use Rattle.nq_block.specs.Writing.{Frame, block_of, state_of, line_clause, with_line, LeadsTo, AreNumbers, term_of, variable_of, IsWriting, AddsTerm, AddsLine, line_text}
+use Rattle.nq_block.specs.Writing.{Frame, Concludes, frame_symbols, block_of, state_of, line_clause, with_line, LeadsTo, AreNumbers, term_of, variable_of, IsWriting, AddsTerm, AddsLine, line_text}
 use Rattle.nq_block.proofs.Leading.{leads_on}
 use Rattle.nq_block.proofs.Numbering.{numbered_last, numbers_kept, number_added}
 use Rattle.nq_block.proofs.Spelling.{run_read}
@@ -53,10 +52,10 @@ pub numeral_step : (frame : Frame) (waiting : List CaseLine) (terms : List Term)
 numeral_step frame waiting terms n = refl
 
 pub call_step : (frame : Frame) (waiting : List CaseLine) (terms : List Term) (f : Name) (ns : List ℕ) (ts : List Term) → block_terms_at (block_of frame waiting terms) ns ≡ Some ts →
-    has_symbol f (length ts) (symbols_of frame.history) ≡ true → is_shallow (call f ts) ≡ true →
+    has_symbol f (length ts) (frame_symbols frame) ≡ true → is_shallow (call f ts) ≡ true →
     step (state_of frame waiting terms) (record { word = word.Call; fields = name f ∷ flat_map one_number ns }) ≡ adds_term frame waiting terms (call f ts)
 call_step frame waiting terms f ns ts found symbol low =
-    let when : List Term → Option Block = λ (ts : List Term). only_when (has_symbol f (length ts) (symbols_of frame.history) && is_shallow (call f ts)) (block_of frame waiting (terms ++ (call f ts ∷ []))) in
+    let when : List Term → Option Block = λ (ts : List Term). only_when (has_symbol f (length ts) (frame_symbols frame) && is_shallow (call f ts)) (block_of frame waiting (terms ++ (call f ts ∷ []))) in
     ap (λ (o : Option (List ℕ)). continued (o >>= λ ns. block_terms_at (block_of frame waiting terms) ns >>= when)) (run_read ns)
     ∙ ap (λ (o : Option (List Term)). continued (o >>= when)) found
     ∙ ap (λ (b : Bool). continued (only_when (b && is_shallow (call f ts)) (block_of frame waiting (terms ++ (call f ts ∷ []))))) symbol
@@ -91,6 +90,7 @@ module _ (bank : Content) (frame : Frame) (old new : Writer) (line : Line) (w : 
         fits = adds.fits;
         of_terms = number_added (term_of bank) terms old.terms new.terms k (old.count + 1) (numbers_kept (term_of bank) w.terms (t ∷ []) old.terms w.of_terms) updates (last t);
         of_variables = subst (AreNumbers (variable_of bank) terms) (sym same) (numbers_kept (variable_of bank) w.terms (t ∷ []) old.variables w.of_variables);
+        new = w.new;
         names = w.names;
         sound = w.sound;
       }
@@ -109,6 +109,7 @@ module _ (bank : Content) (frame : Frame) (old new : Writer) (line : Line) (w : 
         fits = adds.fits;
         of_terms = subst (AreNumbers (term_of bank) terms) (sym same) (numbers_kept (term_of bank) w.terms (t ∷ []) old.terms w.of_terms);
         of_variables = number_added (variable_of bank) terms old.variables new.variables k (old.count + 1) (numbers_kept (variable_of bank) w.terms (t ∷ []) old.variables w.of_variables) updates (last t);
+        new = w.new;
         names = w.names;
         sound = w.sound;
       }
@@ -126,6 +127,7 @@ module _ (bank : Content) (frame : Frame) (old new : Writer) (line : Line) (w : 
         fits = w.fits;
         of_terms = w.of_terms;
         of_variables = w.of_variables;
+        new = w.new;
         names = w.names;
         sound = w.sound;
       } in
@@ -133,23 +135,19 @@ module _ (bank : Content) (frame : Frame) (old new : Writer) (line : Line) (w : 
 
 -- ---- the lines of rules
 
-none_introduced : (ts : List Term) → are_without None ts ≡ true
-none_introduced [] = refl
-none_introduced (t ∷ ts) = none_introduced ts
-
 -- a rule that is read from a line, and is allowed, gives the line its clause
 pub rule_line_is : (frame : Frame) (waiting : List CaseLine) (terms : List Term) (read : Option Rule) (rule : Rule) (c : Clause) → read ≡ Some rule →
-    conclusion frame.history (line_clause frame) rule ≡ Some c → are_shallow c ≡ true →
+    Concludes frame rule c → are_shallow c ≡ true →
     rule_line (state_of frame waiting terms) read ≡ Some (block_of (with_line frame c) waiting terms)
 rule_line_is frame waiting terms read rule c is concluded low =
     let s : State = state_of frame waiting terms in
     let after : Rule → Option Block = λ (r : Rule). conclusion frame.history (clause_at s.block) r >>= λ c. only_when (are_shallow c) (with_clause s.block c) in
     ap (λ (o : Option Rule). rule_line s o) is
-    ∙ ap (λ (b : Bool). only_when b rule >>= after) (none_introduced (rule_terms rule))
-    ∙ ap (λ (o : Option Clause). o >>= λ c. only_when (are_shallow c) (with_clause s.block c)) concluded
+    ∙ ap (λ (b : Bool). only_when b rule >>= after) concluded.without
+    ∙ ap (λ (o : Option Clause). o >>= λ c. only_when (are_shallow c) (with_clause s.block c)) concluded.clause
     ∙ ap (λ (b : Bool). only_when b (with_clause s.block c)) low
 
 pub rule_step : (frame : Frame) (waiting : List CaseLine) (terms : List Term) (read : Option Rule) (rule : Rule) (c : Clause) → read ≡ Some rule →
-    conclusion frame.history (line_clause frame) rule ≡ Some c → are_shallow c ≡ true →
+    Concludes frame rule c → are_shallow c ≡ true →
     continued (rule_line (state_of frame waiting terms) read) ≡ Some (Continues (block_of (with_line frame c) waiting terms))
 rule_step frame waiting terms read rule c is concluded low = ap continued (rule_line_is frame waiting terms read rule c is concluded low)

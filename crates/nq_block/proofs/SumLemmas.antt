@@ -24,7 +24,7 @@ use Rattle.nq_log.specs.Fields.{multiples_in}
 use Rattle.nq_log.specs.Fields as fields
 use Rattle.nq_log.specs.RuleLines.{side_of, linear_rule, summands_at as block_summands_at}
 use Rattle.nq_block.specs.declared.writer.Writer.{Writer}
-use Rattle.nq_block.specs.Writing.{Frame, block_of, state_of, line_clause, with_line, IsWriting, IsWritten, IsSummandWritten, Keeps, AddsLine, multiple_in, number_in, sign_if}
+use Rattle.nq_block.specs.Writing.{Frame, Concludes, block_of, state_of, line_clause, with_line, IsWriting, IsWritten, IsSummandWritten, Keeps, AddsLine, multiple_in, number_in, sign_if}
 use Rattle.nq_block.proofs.RuleLemmas.{after, term_number, term_fits, rule_written}
 
 -- ---- literals that have their lines
@@ -90,7 +90,7 @@ module _ (bank : Content) (frame : Frame) (w : Writer) (v : IsWriting bank frame
 
 module _ (bank : Content) (frame : Frame) (old new : Writer) (c : Clause) (v : IsWriting bank frame old) (low : are_shallow c ≡ true) where
   pub linear_written : (summands : List Summand) (ms : List Multiple) → All (IsSummandWritten old) summands → All (λ s. s.factor < 2 ^ 64) summands → ms ≡ map (multiple_in old) summands →
-      conclusion frame.history (line_clause frame) (Linear (summands_at bank summands)) ≡ Some c → AddsLine (after word.Linear (flat_map of_multiple ms)) old new → IsWriting bank (with_line frame c) new
+      Concludes frame (Linear (summands_at bank summands)) c → AddsLine (after word.Linear (flat_map of_multiple ms)) old new → IsWriting bank (with_line frame c) new
   linear_written summands ms written fit same concluded adds =
       let block = block_of frame v.waiting v.terms in
       let ns : List Multiple = map (multiple_in old) summands in

@@ -9,16 +9,16 @@ use Rattle.nq_logtext.specs.Views.{one_number}
 use Rattle.nq_logtext.specs.declared.word.Word.TheVariants as word
 use Rattle.nq_logic.specs.Terms.{Term, Variable, call}
 use Rattle.nq_logic.specs.Words.{numeral as numeral_term}
-use Rattle.nq_logic.specs.Ground.{symbols_of}
 use Rattle.nq_bank.specs.declared.node.Sym.{Sym}
 use Rattle.nq_bank.specs.declared.node.TermId.{TermId}
 use Rattle.nq_bank.specs.Content.{Content, Stands, text_at, term_at, terms_at}
 use Rattle.nq_log.specs.Sizes.{is_shallow}
 use Rattle.nq_block.specs.declared.writer.Writer.{Writer}
 use Rattle.nq_kernel.specs.Over.{IsTermOf, IsVariable}
-use Rattle.nq_block.specs.Writing.{Frame, IsWriting, IsVariableWritten, AddsTerm, number_in, term_of, variable_of}
+use Rattle.nq_block.specs.Writing.{Frame, frame_symbols, IsWriting, IsVariableWritten, AddsTerm, number_in, term_of, variable_of}
 use Rattle.nq_block.proofs.Numbering.{AreWritten, numbers_in, number_found, number_added}
-use Rattle.nq_block.proofs.Named.{function_spelled, symbol_told}
+use Rattle.nq_block.proofs.Named.{symbol_told}
+use Rattle.nq_block.proofs.NewFunction.{block_function_spelled}
 use Rattle.nq_block.proofs.TermParts.{call_parts}
 use Rattle.nq_block.proofs.Stepping.{shallow, adds_term, variable_step, numeral_step, call_step, term_written, variable_written}
 use Rattle.nq_block.proofs.RuleLemmas.{after, run_terms, run_fits}
@@ -44,16 +44,16 @@ module _ (bank : Content) (frame : Frame) (old new : Writer) (v : IsWriting bank
       term_written bank frame old new (after word.Numeral (numeral n ∷ [])) v t.0 (fits, tt) refl (numeral_step frame v.waiting v.terms n ∙ ap (adds_term frame v.waiting v.terms) (sym is)) adds updates same
 
   pub new_call : (t : TermId) (f : Sym) (ids : List TermId) (x ns : List ℕ) → x ≡ text_at bank f → ns ≡ numbers_in old.terms ids → Stands bank t → term_at bank t ≡ call (text_at bank f) (terms_at bank ids) →
-      AreWritten old.terms ids → IsTermOf IsVariable (symbols_of frame.history) (term_at bank t) → AddsTerm (after word.Call (name x ∷ flat_map one_number ns)) old new →
+      AreWritten old.terms ids → IsTermOf IsVariable (frame_symbols frame) (term_at bank t) → AddsTerm (after word.Call (name x ∷ flat_map one_number ns)) old new →
       Updates nat_eq old.terms new.terms t.0 (Some (old.count + 1)) → new.variables ≡ old.variables → IsWriting bank frame new
   new_call t f ids x ns reads same_numbers stands is written over adds updates same =
       let g : List ℕ = text_at bank f in
       let ts : List Term = terms_at bank ids in
       let ms : List ℕ = numbers_in old.terms ids in
-      let parts = call_parts IsVariable (symbols_of frame.history) g ts (subst (IsTermOf IsVariable (symbols_of frame.history)) is over) in
-      let symbol = symbol_told g (length ts) (symbols_of frame.history) parts.0 in
+      let parts = call_parts IsVariable (frame_symbols frame) g ts (subst (IsTermOf IsVariable (frame_symbols frame)) is over) in
+      let symbol = symbol_told g (length ts) (frame_symbols frame) parts.0 in
       let low = ap is_shallow (sym is) ∙ shallow bank t v.sound stands in
-      let spelled : IsTrue (is_symbol g) = function_spelled frame.history (g, length ts) v.names parts.0 in
+      let spelled : IsTrue (is_symbol g) = block_function_spelled frame.history frame.introduced (g, length ts) v.names v.new parts.0 in
       let whole : AddsTerm (after word.Call (name g ∷ flat_map one_number ms)) old new =
       subst (λ x. AddsTerm (after word.Call (name x ∷ flat_map one_number ms)) old new) reads
       (subst (λ ns. AddsTerm (after word.Call (name x ∷ flat_map one_number ns)) old new) same_numbers adds) in
@@ -75,6 +75,7 @@ module _ (bank : Content) (frame : Frame) (old new : Writer) (v : IsWriting bank
         fits = v.fits;
         of_terms = number_added (term_of bank) v.terms old.terms new.terms t.0 (number_in old.variables s.0) v.of_terms updates here;
         of_variables = v.of_variables;
+        new = v.new;
         names = v.names;
         sound = v.sound;
       } in

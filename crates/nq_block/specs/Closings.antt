@@ -1,11 +1,12 @@
 -- What the closing line of a block claims, and when it may stand.
 use Rattle.std.specs.Prelude.{◌≡◌, ◌<◌, ◌^◌, ℕ, ⊤, IsTrue, All, true, false, is_some, Option, Some, None, bytes_eq, codes, List, [], ◌∷◌, length}
 use Rattle.nq_logtext.specs.Symbols.{is_symbol}
-use Rattle.nq_logic.specs.Terms.{Name, Term, Each}
+use Rattle.nq_logic.specs.Terms.{Name, Symbol, Term, Each, substituted}
+use Rattle.nq_logic.specs.Words.{call1}
 use Rattle.nq_logic.specs.Histories.{History, Shell, Part, AddShell, Declaration, Defines, Axiom, Lemma, Toggle}
 use Rattle.nq_logic.specs.Ground.{symbols_of}
 use Rattle.nq_logic.specs.Names.{is_in_use, are_distinct, event_in, looked_up}
-use Rattle.nq_logic.specs.Admissible.{mentions, has_variables}
+use Rattle.nq_logic.specs.Admissible.{mentions, has_variables, Call, calls_of, matched, obligation}
 use Rattle.nq_logic.specs.ShellPrinciple.{listed}
 use Rattle.nq_bank.specs.Shells.{texts_at, shell_at, ShellStands}
 use Rattle.nq_bank.specs.declared.node.Sym.{Sym}
@@ -21,12 +22,18 @@ use Rattle.nq_kernel.specs.Over.{IsTermOf, IsVariable}
 use Rattle.nq_log.specs.States.{Claim, Grounded, Adds, Undoes}
 use Rattle.nq_log.specs.Sizes.{is_small}
 use Rattle.nq_log.specs.ClosingLines.{has_room, is_shell_ok}
+use Rattle.nq_block.specs.declared.closing.Measured.{Measured}
 use Rattle.nq_block.specs.declared.closing.Closing.{Closing}
 use Rattle.nq_block.specs.declared.closing.Closing.TheVariants as closing
 
 -- the definition of a function that does not call itself
 abbrev pub defined_at : Content → Sym → List Sym → TermId → Claim
 defined_at bank name formals body = Adds (Defines (record { function = text_at bank name; formals = texts_at bank formals; body = term_at bank body; measure = None }))
+
+-- the definition of a function that calls itself, with its measure
+abbrev pub recursion_at : Content → Sym → List Sym → TermId → TermId → Claim
+recursion_at bank name formals body measure =
+    Adds (Defines (record { function = text_at bank name; formals = texts_at bank formals; body = term_at bank body; measure = Some (term_at bank measure) }))
 
 -- what the closing line claims
 abbrev pub claim_at : Content → Closing → Claim
@@ -35,9 +42,15 @@ claim_at bank (closing.Lemma name t line) = Adds (Lemma (text_at bank name) [] (
 claim_at bank (closing.Axiomatize name t) = Adds (Axiom (text_at bank name) [] (term_at bank t))
 claim_at bank (closing.Dcl name arity) = Adds (Declaration (text_at bank name) arity)
 claim_at bank (closing.Defn name formals body) = defined_at bank name formals.items body
+claim_at bank (closing.Recursion name formals body measured) = recursion_at bank name formals.items body measured.measure
 claim_at bank (closing.Shell shell) = Adds (AddShell (shell_at bank shell))
 claim_at bank (closing.Toggle name old disabled) = Adds (Toggle (text_at bank name) (text_at bank old) disabled)
 claim_at bank (closing.Undo name) = Undoes (text_at bank name)
+
+-- the function that the first line of the block introduces, with its arity
+abbrev pub introduced_by : Content → Closing → Option Symbol
+introduced_by bank (closing.Recursion name formals body measured) = Some (text_at bank name, length (texts_at bank formals.items))
+introduced_by bank c = None
 
 pub record NameAndTerm (bank : Content) (name : Sym) (t : TermId) : Type 0 where
   pub named : IsNamed bank name
@@ -52,6 +65,10 @@ pub record FunctionNames (bank : Content) (name : Sym) (formals : List Sym) (t :
   pub formals_named : All (IsNamed bank) formals
   pub stands : Stands bank t
 
+pub record RecursionNames (bank : Content) (name : Sym) (formals : List Sym) (body : TermId) (measured : Measured) : Type 0 where
+  pub function : FunctionNames bank name formals body
+  pub measure : Stands bank measured.measure
+
 -- the names and terms of the closing line stand in the bank
 abbrev pub ClosingStands : Content → Closing → Type 0
 ClosingStands bank closing.BootStrap = ⊤
@@ -59,6 +76,7 @@ ClosingStands bank (closing.Lemma name t line) = NameAndTerm bank name t
 ClosingStands bank (closing.Axiomatize name t) = NameAndTerm bank name t
 ClosingStands bank (closing.Dcl name arity) = IsNamed bank name
 ClosingStands bank (closing.Defn name formals body) = FunctionNames bank name formals.items body
+ClosingStands bank (closing.Recursion name formals body measured) = RecursionNames bank name formals.items body measured
 ClosingStands bank (closing.Shell shell) = ShellStands bank shell
 ClosingStands bank (closing.Toggle name old disabled) = TwoNames bank name old
 ClosingStands bank (closing.Undo name) = IsNamed bank name
@@ -95,6 +113,35 @@ pub record CanDefine (h : History) (name : Name) (formals : List Name) (body : T
   pub within : has_variables formals body ≡ true
   pub plain : mentions name body ≡ false
 
+-- the line shows that the measure falls at the call, and the measure there does not mention the function
+pub record IsFall (lines : ℕ → Option Clause) (f : Name) (xs : List Name) (m : Term) (c : Call) (line : ℕ) : Type 0 where
+  pub older : mentions f (substituted (matched xs c.arguments) m) ≡ false
+  pub less : has_only (lines line) (obligation f xs m c.tests c.arguments) ≡ true
+
+-- each call has such a line, in their order
+abbrev pub AreFalls : (ℕ → Option Clause) → Name → List Name → Term → List Call → List ℕ → Type 0
+AreFalls lines f xs m [] [] = ⊤
+AreFalls lines f xs m [] (r ∷ rs) = ⊥
+AreFalls lines f xs m (c ∷ calls) [] = ⊥
+AreFalls lines f xs m (c ∷ calls) (r ∷ rs) = IsFall lines f xs m c r × AreFalls lines f xs m calls rs
+
+-- The formals of a recursive definition are distinct variables, its body has no others, calls the function, and is over the
+-- history's functions and the new one. The measure is over the history's functions alone and has no other variables than the
+-- formals. One line shows that it is an ordinal, and one for each call of the function in the body that it falls there.
+pub record CanRecur (h : History) (lines : ℕ → Option Clause) (name : Name) (formals : List Name) (body m : Term) (ordinal : ℕ) (falls : List ℕ) : Type 0 where
+  pub free : IsFree h name
+  pub count : length formals < 2 ^ 32
+  pub spelled : Each IsVariable formals
+  pub distinct : are_distinct formals ≡ true
+  pub over : IsTermOf IsVariable ((name, length formals) ∷ symbols_of h) body
+  pub small : is_small body ≡ true
+  pub within : has_variables formals body ≡ true
+  pub recursive : mentions name body ≡ true
+  pub measure_over : IsTermOf IsVariable (symbols_of h) m
+  pub measure_within : has_variables formals m ≡ true
+  pub is_ordinal : has_only (lines ordinal) (call1 "ORDINALP" m ∷ []) ≡ true
+  pub each_falls : AreFalls lines name formals m (calls_of name body) falls
+
 -- the names of a part are symbols
 pub record IsPartSpelled (part : Part) : Type 0 where
   pub accessor : IsTrue (is_symbol part.accessor)
@@ -127,6 +174,8 @@ CanCloseAfter bank h lines (closing.Lemma name t line) = CanShow h (text_at bank
 CanCloseAfter bank h lines (closing.Axiomatize name t) = CanAssume h (text_at bank name) (term_at bank t)
 CanCloseAfter bank h lines (closing.Dcl name arity) = IsFree h (text_at bank name)
 CanCloseAfter bank h lines (closing.Defn name formals body) = CanDefine h (text_at bank name) (texts_at bank formals.items) (term_at bank body)
+CanCloseAfter bank h lines (closing.Recursion name formals body measured) =
+    CanRecur h lines (text_at bank name) (texts_at bank formals.items) (term_at bank body) (term_at bank measured.measure) measured.ordinal measured.falls.items
 CanCloseAfter bank h lines (closing.Shell shell) = CanAdd h (shell_at bank shell)
 CanCloseAfter bank h lines (closing.Toggle name old disabled) = CanToggle h (text_at bank name) (text_at bank old)
 -- what is undone is an event past the ground history

@@ -1,5 +1,6 @@
 //! The block of one event, and the first and the last line of a log.
-ghost use Rattle.std.specs.Prelude.{◌≡◌, ◌++◌, ◌≤◌, [], length, OnOk, OnErr};
+ghost use Rattle.std.specs.Prelude.{◌≡◌, ◌++◌, ◌≤◌, [], length, Option, OnOk, OnErr};
+ghost use Rattle.nq_logic.specs.Terms.{Symbol};
 ghost use Rattle.nq_bank.specs.Soundness.{IsSound};
 ghost use Rattle.nq_history.specs.Events.{events_at};
 ghost use Rattle.nq_kernel.specs.Growing.{LogGrows};
@@ -51,14 +52,13 @@ impl Writer {
         }
     }
 
-    /// Writes the lines of a log.
+    /// Writes the lines of a log, in a block that introduces a function or none.
     pub fn rules(&mut self, bank: &Bank, history: &History, log: &Log) -> Result<(), AllocError>
         requires counted { IsCounted self.old }
         requires legal { LogGrows bank.now history.now [] log.now }
         requires over { RulesAreOver IsVariable bank.now history.now 0 log.now }
-        requires writing { IsWriting bank.now (frame_after bank.now history.now log.now 0) self.old }
         ensures counted { OnOk result (IsCounted self.new) }
-        ensures writing { OnOk result (IsWriting bank.now (frame_after bank.now history.now log.now (length log.now)) self.new) }
+        ensures writing { (introduced : Option Symbol) → IsWriting bank.now (frame_after bank.now history.now introduced log.now 0) self.old → OnOk result (IsWriting bank.now (frame_after bank.now history.now introduced log.now (length log.now)) self.new) }
     {
         for k in 0..log.len() {
             let line = log.rule(k + 1);
@@ -70,7 +70,8 @@ impl Writer {
 
 /// Writes the block of an event: the lines of a log that was begun for it, with the terms that they use, and the closing line.
 ///
-/// Each term is written once, its parts before it, just before the first line that uses it; the lines keep their numbers. It
+/// Each term is written once, its parts before it, just before the first line that uses it; the lines keep their numbers. The
+/// line of a function that calls itself stands before them all. It
 /// fails only for want of memory, and then nothing was written.
 pub fn write_block(
     bank: &Bank,
@@ -89,6 +90,7 @@ pub fn write_block(
 {
     bank.is_sound();
     let mut writer = Writer::new(bank.alloc());
+    writer.begin(bank, closing)?;
     writer.rules(bank, history, log)?;
     writer.close(bank, closing)?;
     out.extend_from_slice(writer.text.as_slice())

@@ -26,6 +26,9 @@ impl Writer {
             Closing::Defn(name, formals, body) => {
                 self.definition(bank, *name, formals.as_slice(), *body)
             }
+            Closing::Recursion(name, formals, body, measured) => {
+                self.recursion(bank, *name, formals.as_slice(), *body, measured)
+            }
             Closing::Shell(shell) => self.shell(bank, shell),
             Closing::Toggle(name, old, disabled) => self.toggle(bank, *name, *old, *disabled),
             Closing::Undo(name) => self.undo(bank, *name),

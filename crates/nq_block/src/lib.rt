@@ -26,13 +26,14 @@ mod sums;
 
 // the closing lines
 mod closings;
+mod recursions;
 mod shells;
 
 // the block, and the first and the last line of a log
 mod block;
 
 pub use block::{write_block, write_end, write_header};
-pub use closing::Closing;
+pub use closing::{Closing, Measured};
 
 /// A log that is written from its front goes on block by block, and is right with its last line. The checker accepts it
 /// where it allows the closing lines of its blocks.

@@ -209,8 +209,8 @@ fn sign_of(side: Side) -> Sign
     }
 }
 
-/// A copy of a path.
-fn copied(alloc: Global, path: &[u64]) -> Result<Vec<u64>, AllocError>
+/// A copy of numbers.
+pub(crate) fn copied(alloc: Global, path: &[u64]) -> Result<Vec<u64>, AllocError>
     ensures items { IfOk result (λ places. places.items ≡ path.now) }
     ensures fit { OnOk result (All (λ place. place < 2 ^ 64) path.now) }
 {

@@ -5,7 +5,7 @@ ghost use Rattle.nq_logic.specs.Ground.{symbols_of};
 ghost use Rattle.nq_bank.specs.Content.{Stands, IsNamed, text_at, term_at, terms_at};
 ghost use Rattle.nq_bank.specs.Shells.{texts_at};
 ghost use Rattle.nq_kernel.specs.Over.{IsTermOf, IsVariable};
-ghost use Rattle.nq_block.specs.Writing.{Frame, IsWriting, IsCounted, IsWritten, IsVariableWritten, Keeps, number_in};
+ghost use Rattle.nq_block.specs.Writing.{Frame, frame_symbols, IsWriting, IsCounted, IsWritten, IsVariableWritten, Keeps, number_in};
 
 use crate::writer::Writer;
 use nq_bank::{Bank, Node, Sym, TermId};
@@ -34,6 +34,8 @@ impl Writer {
         requires counted { IsCounted self.old }
         requires stands { Stands bank.now t }
         ensures counted { OnOk result (IsCounted self.new) }
+        // with the function that the block introduces, and without it
+        ensures within { (frame : Frame) → IsWriting bank.now frame self.old → IsTermOf IsVariable (frame_symbols frame) (term_at bank.now t) → OnOk result (IsWriting bank.now frame self.new) }
         ensures writing { (frame : Frame) → IsWriting bank.now frame self.old → IsTermOf IsVariable (symbols_of frame.history) (term_at bank.now t) → OnOk result (IsWriting bank.now frame self.new) }
         ensures written { OnOk result (IsWritten self.new t) }
         ensures keeps { OnOk result (Keeps self.old self.new) }
@@ -82,7 +84,7 @@ impl Writer {
         requires call { term_at bank.now t ≡ call (text_at bank.now function) (terms_at bank.now arguments.now) }
         requires written { All (IsWritten self.old) arguments.now }
         ensures counted { OnOk result (IsCounted self.new) }
-        ensures writing { (frame : Frame) → IsWriting bank.now frame self.old → IsTermOf IsVariable (symbols_of frame.history) (term_at bank.now t) → OnOk result (IsWriting bank.now frame self.new) }
+        ensures writing { (frame : Frame) → IsWriting bank.now frame self.old → IsTermOf IsVariable (frame_symbols frame) (term_at bank.now t) → OnOk result (IsWriting bank.now frame self.new) }
         ensures written { OnOk result (IsWritten self.new t) }
         ensures keeps { OnOk result (Keeps self.old self.new) }
     {

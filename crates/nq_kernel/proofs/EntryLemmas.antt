@@ -7,7 +7,7 @@ use Rattle.nq_history.specs.declared.entry.Entry.{Entry}
 use Rattle.nq_history.specs.Events.{all_events_at, events_at, HistoryStands}
 use Rattle.nq_history.proofs.LookupLemmas.{all_events_are}
 
-definitions_join : (xs ys : List Event) → events_definitions (xs ++ ys) ≡ events_definitions xs ++ events_definitions ys
+pub definitions_join : (xs ys : List Event) → events_definitions (xs ++ ys) ≡ events_definitions xs ++ events_definitions ys
 definitions_join [] ys = refl
 definitions_join (x ∷ xs) ys = ap (λ ds. event_definitions x ++ ds) (definitions_join xs ys) ∙ sym (append_assoc (event_definitions x) (events_definitions xs) (events_definitions ys))
 

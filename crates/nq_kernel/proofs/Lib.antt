@@ -10,3 +10,6 @@ pub mod DepthLemmas
 pub mod EntryLemmas
 pub mod AxiomLemmas
 pub mod SoundLines
+pub mod ReadyLemmas
+pub mod ReadyLaws
+pub mod HeldWork

@@ -1,5 +1,5 @@
 -- Lines are derivable.
-use Rattle.std.proofs.Common.{◌≡◌, ℕ, zero, suc, ◌≤◌, Option, Some, None, List, [], ◌∷◌, take, refl, sym, ap, ◌∙◌, subst, arith}
+use Rattle.std.proofs.Common.{◌≡◌, ℕ, zero, suc, ◌<◌, ◌≤◌, ◌⊎◌, Option, Some, None, List, [], ◌∷◌, length, take, inl, inr, refl, sym, ap, ◌∙◌, subst, arith}
 use Rattle.std.specs.Prelude.{slice_get}
 use Rattle.std.specs.Option.{option_map}
 use Rattle.std.proofs.lemmas.List.{length-take}
@@ -19,9 +19,9 @@ use Rattle.nq_kernel.specs.declared.rule.Line.{Line}
 use Rattle.nq_kernel.specs.Lines.{ids_of, ids_if}
 use Rattle.nq_kernel.specs.Meaning.{rule_at, clause_at, conclusion_at}
 use Rattle.nq_kernel.specs.Over.{IsVariable, IsTermOf, RulesAreOver}
-use Rattle.nq_kernel.specs.Growing.{IsLegal, LogGrows}
+use Rattle.nq_kernel.specs.Growing.{IsLegal}
 use Rattle.nq_kernel.specs.Laws.{SoundLine, SoundLog}
-use Rattle.nq_kernel.proofs.LogGrowth.{slice_get-take}
+use Rattle.nq_kernel.proofs.LogGrowth.{slice_get-take, below_or_not}
 
 pub line_law : FullSoundness → SoundLine
 unfolding conclusion_at
@@ -43,11 +43,12 @@ line_taken bank log k (suc m) c e = by_line (slice_get (take k log) m) refl e
         let count = length-take k log in
         (omega (arith, within, count), ap (λ o. option_map (terms_at bank) (ids_of o)) (slice_get-take log k m line at) ∙ h)
 
-module _ (rules_hold : FullSoundness) (bank : Content) (history : List Entry) (log : List Line) (P : Name → Type 0) (closed : IsClosed (events_at bank history)) (lemmas : LemmasHold (events_at bank history)) (grows : LogGrows bank history [] log) (over : RulesAreOver P bank history 0 log) where
-  legal_line : (k : ℕ) (c : List Term) (legal : IsLegal bank history log k) → LinesHold (events_at bank history) (clause_at bank (take k log)) → clause_at bank log (suc k) ≡ Some c → Derivable (events_at bank history) (clause c)
-  legal_line k c legal lines e =
+-- Of a log the first lines are derivable, and each later one is legal: then each standing line is derivable.
+module _ (rules_hold : FullSoundness) (bank : Content) (history : List Entry) (log : List Line) (P : Name → Type 0) (start : ℕ) (closed : IsClosed (events_at bank history)) (lemmas : LemmasHold (events_at bank history)) (legal : (k : ℕ) → start ≤ k → k < length log → IsLegal bank history log k) (over : RulesAreOver P bank history start log) (known : (n : ℕ) (c : List Term) → n ≤ start → clause_at bank log n ≡ Some c → Derivable (events_at bank history) (clause c)) where
+  legal_line : (k : ℕ) (c : List Term) → start ≤ k → (legal : IsLegal bank history log k) → LinesHold (events_at bank history) (clause_at bank (take k log)) → clause_at bank log (suc k) ≡ Some c → Derivable (events_at bank history) (clause c)
+  legal_line k c from legal lines e =
       let ids : List Term = terms_at bank legal.line.clause.items in
-      let terms = each_over P (symbols_of (events_at bank history)) (rule_terms (rule_at bank legal.line.rule)) (over.each k legal.line (omega arith) legal.at).terms in
+      let terms = each_over P (symbols_of (events_at bank history)) (rule_terms (rule_at bank legal.line.rule)) (over.each k legal.line from legal.at).terms in
       let shown : Derivable (events_at bank history) (clause ids) = line_law rules_hold bank history (take k log) legal.line.rule ids closed lemmas lines terms legal.clause.concluded in
       let found : clause_at bank log (suc k) ≡ Some ids = ap (λ o. option_map (terms_at bank) (ids_of o)) legal.at ∙ ap (λ b. option_map (terms_at bank) (ids_if b legal.line.clause.items)) legal.stands in
       subst (λ d. Derivable (events_at bank history) (clause d)) (by_some ids c (sym found ∙ e)) shown
@@ -55,20 +56,28 @@ module _ (rules_hold : FullSoundness) (bank : Content) (history : List Entry) (l
       by_some : (a b : List Term) → Some a ≡ Some b → a ≡ b
       by_some a b e = cc
 
-  next_line : (k : ℕ) (c : List Term) → LinesHold (events_at bank history) (clause_at bank (take k log)) → clause_at bank log (suc k) ≡ Some c → Derivable (events_at bank history) (clause c)
-  next_line k c lines e = by_line (slice_get log k) refl e
+  next_line : (k : ℕ) (c : List Term) → start ≤ k → LinesHold (events_at bank history) (clause_at bank (take k log)) → clause_at bank log (suc k) ≡ Some c → Derivable (events_at bank history) (clause c)
+  next_line k c from lines e = by_line (slice_get log k) refl e
     where
       by_line : (o : Option Line) → slice_get log k ≡ o → option_map (terms_at bank) (ids_of o) ≡ Some c → Derivable (events_at bank history) (clause c)
       by_line None at h = absurd cc
-      by_line (Some line) at h = legal_line k c (grows.legal k (omega arith) (slice_get_within log k line at)) lines e
+      by_line (Some line) at h = legal_line k c from (legal k from (slice_get_within log k line at)) lines e
 
   first_lines : (m n : ℕ) (c : List Term) → n ≤ m → clause_at bank log n ≡ Some c → Derivable (events_at bank history) (clause c)
   first_lines m zero c within e = absurd cc
   first_lines zero (suc k) c within e = absurd (omega arith)
-  first_lines (suc m) (suc k) c within e =
-      next_line k c
-      (λ n d h. let there = line_taken bank log k n d h in first_lines m n d (omega (arith, within, there.0)) there.1)
-      e
+  first_lines (suc m) (suc k) c within e = by_place (below_or_not k start) (λ n d h. let there = line_taken bank log k n d h in first_lines m n d (omega (arith, within, there.0)) there.1)
+    where
+      by_place : (k < start) ⊎ (start ≤ k) → LinesHold (events_at bank history) (clause_at bank (take k log)) → Derivable (events_at bank history) (clause c)
+      by_place (inl below) lines = known (suc k) c (omega (arith, below)) e
+      by_place (inr from) lines = next_line k c from lines e
+
+  pub lines_law : LinesHold (events_at bank history) (clause_at bank log)
+  lines_law n c e = first_lines n n c (omega arith) e
 
 pub log_law : FullSoundness → SoundLog
-log_law rules_hold bank history log closed lemmas grows over = λ n c e. first_lines rules_hold bank history log IsVariable closed lemmas grows over n n c (omega arith) e
+log_law rules_hold bank history log closed lemmas grows over = lines_law rules_hold bank history log IsVariable zero closed lemmas grows.legal over (λ n c within e. no_line n c within e)
+  where
+    no_line : (n : ℕ) (c : List Term) → n ≤ zero → clause_at bank log n ≡ Some c → Derivable (events_at bank history) (clause c)
+    no_line zero c within e = absurd cc
+    no_line (suc n) c within e = absurd (omega (arith, within))

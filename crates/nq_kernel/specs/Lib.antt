@@ -10,3 +10,5 @@ pub mod Laws
 pub mod Entries
 pub mod Hints
 pub mod Proving
+pub mod Ready
+pub mod ReadyLaws

@@ -2,6 +2,7 @@
 #![tactic(auto)]
 
 ghost use Rattle.nq_kernel.specs.Laws.{SoundLine, SoundLog};
+ghost use Rattle.nq_kernel.specs.ReadyLaws.{ReadyIsClosed, ReadyLemmasHold, ReadyTerms, ReadyDefinitions, NoEventIsReady, OneMoreReadyEvent, ReadyBefore, ReadyGrown, NoLineHolds, GrownWorkHolds};
 
 // rules and lines
 mod rule;
@@ -53,5 +54,24 @@ pub fn sound_log()
     full_soundness();
 }
 
-#[cfg(test)]
-mod tests;
+/// What every prover may assume of a history is so of the empty history, and stays so with a ready event more and before any
+/// event. A ready history speaks of its own functions alone, with variables that a log can spell; its lemmas are derivable, and
+/// its definitions can be used.
+pub fn ready_histories()
+    ensures closed { ReadyIsClosed }
+    ensures lemmas { ReadyLemmasHold }
+    ensures terms { ReadyTerms }
+    ensures definitions { ReadyDefinitions }
+    ensures none { NoEventIsReady }
+    ensures more { OneMoreReadyEvent }
+    ensures before { ReadyBefore }
+    ensures grown { ReadyGrown }
+{}
+
+/// Each standing line of work over a ready history is derivable: of work without lines, and of work that grows from such.
+pub fn held_work()
+    ensures none { NoLineHolds }
+    ensures grown { GrownWorkHolds }
+{
+    full_soundness();
+}

@@ -6,8 +6,8 @@ ghost use Rattle.nq_kernel.specs.Growing.{WorkStands, WorkGrows};
 ghost use Rattle.nq_history.specs.Hints.{HintsStand};
 ghost use Rattle.nq_kernel.specs.Hints.{HintsAreIn};
 ghost use Rattle.nq_kernel.specs.Over.{TermIsIn};
-ghost use Rattle.nq_kernel.specs.EventTerms.{HasSpelledTerms};
 ghost use Rattle.nq_kernel.specs.Proving.{AllButLast, AtLeast, IsFirstPass, IsTold};
+ghost use Rattle.nq_kernel.specs.Ready.{IsReady, WorkHolds};
 
 use crate::verdict::Verdict;
 use crate::work::Work;
@@ -49,7 +49,8 @@ pub trait Prover {
         requires learnt { has_learnt self.old history.now }
         requires goal { Stands work.old.bank goal }
         requires over { TermIsIn work.old.bank history.now goal }
-        requires spelled { HasSpelledTerms (events_at work.old.bank history.now) }
+        requires ready { IsReady (events_at work.old.bank history.now) }
+        requires holds { WorkHolds history.now work.old }
         requires hints { HintsStand work.old.bank hints.now }
         requires hint_terms { HintsAreIn work.old.bank history.now hints.now }
         ensures learnt { has_learnt self.new history.now }

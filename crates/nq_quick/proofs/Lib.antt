@@ -17,5 +17,5 @@ pub mod CoveringLemmas
 pub mod ProvingLemmas
 pub mod EarlierLemmas
 pub mod EventLemmas
-pub mod SpelledLemmas
+pub mod ReadyLemmas
 pub mod FirstPassLemmas

@@ -4,8 +4,8 @@ ghost use Rattle.nq_fragments.specs.Instances.{IsEarlierInstance};
 ghost use Rattle.nq_bank.specs.Content.{Stands, term_at};
 ghost use Rattle.nq_history.specs.Events.{events_at};
 ghost use Rattle.nq_kernel.specs.Over.{TermIsIn};
-ghost use Rattle.nq_kernel.specs.EventTerms.{HasSpelledTerms};
 ghost use Rattle.nq_kernel.specs.Growing.{WorkStands, WorkGrows};
+ghost use Rattle.nq_kernel.specs.Ready.{IsReady};
 ghost use Rattle.nq_quick.specs.Lines.{GrowsUncounted};
 ghost use Rattle.nq_quick.specs.Answers.{IsInstanceLine, IsQuickAnswer};
 
@@ -29,7 +29,7 @@ pub fn quick(
     requires stands { WorkStands history.now work.old }
     requires goal { Stands work.old.bank goal }
     requires over { TermIsIn work.old.bank history.now goal }
-    requires spelled { HasSpelledTerms (events_at work.old.bank history.now) }
+    requires ready { IsReady (events_at work.old.bank history.now) }
     ensures answer { IfOk result (IsQuickAnswer history.now work.old work.new goal) }
     ensures grows { WorkGrows history.now work.old work.new }
     ensures uncounted { work.new.counter ≡ work.old.counter }
@@ -55,7 +55,7 @@ fn prove_by_instance(
     requires stands { WorkStands history.now work.old }
     requires goal { Stands work.old.bank goal }
     requires over { TermIsIn work.old.bank history.now goal }
-    requires spelled { HasSpelledTerms (events_at work.old.bank history.now) }
+    requires ready { IsReady (events_at work.old.bank history.now) }
     ensures answer { IfOk result (λ found. MatchOption found (IsEarlierInstance (events_at work.old.bank history.now) (term_at work.old.bank goal) → ⊥) (IsInstanceLine history.now work.old work.new goal)) }
     ensures grows { GrowsUncounted history.now work.old work.new }
 {

@@ -5,8 +5,8 @@ ghost use Rattle.nq_clause.specs.Substitution.{substitution_at, PairStands};
 ghost use Rattle.nq_clause.specs.Binding.{bindings_at, bound_at, BindingStands, BoundStands};
 ghost use Rattle.nq_history.specs.Events.{events_at};
 ghost use Rattle.nq_kernel.specs.Over.{TermIsIn};
-ghost use Rattle.nq_kernel.specs.EventTerms.{HasSpelledTerms};
 ghost use Rattle.nq_kernel.specs.Growing.{WorkStands, LineHolds};
+ghost use Rattle.nq_kernel.specs.Ready.{IsReady};
 ghost use Rattle.nq_quick.specs.Lines.{GrowsUncounted, LineHasOnly};
 ghost use Rattle.nq_quick.specs.Earlier.{CanInstance, IsEvent, IsFound};
 
@@ -28,7 +28,7 @@ pub fn prove_instance(
     requires stands { WorkStands history.now work.old }
     requires goal { Stands work.old.bank goal }
     requires over { TermIsIn work.old.bank history.now goal }
-    requires spelled { HasSpelledTerms (events_at work.old.bank history.now) }
+    requires ready { IsReady (events_at work.old.bank history.now) }
     requires found { IsFound work.old.bank (events_at work.old.bank history.now) goal found.now }
     ensures line { IfOk result (λ n. LineHasOnly work.new n (term_at work.old.bank goal ∷ [])) }
     ensures grows { GrowsUncounted history.now work.old work.new }

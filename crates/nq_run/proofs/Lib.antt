@@ -1,7 +1,7 @@
 pub mod Elements
 pub mod SpelledLemmas
 pub mod NarrowLemmas
-pub mod TermLemmas
+pub mod ReadyLemmas
 pub mod SessionLemmas
 pub mod ProvingLemmas
 pub mod TakingLemmas
@@ -15,3 +15,4 @@ pub mod TurnLemmas
 pub mod BuiltLemmas
 pub mod RunLemmas
 pub mod EndingLemmas
+pub mod RunHistories

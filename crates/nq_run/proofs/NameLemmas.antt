@@ -1,7 +1,7 @@
 -- Functions without axioms, and names that are disabled or enabled.
 use Rattle.std.proofs.Common.{◌≡◌, ℕ, Bool, true, false, List, [], ◌∷◌, ◌++◌, length, refl, ap, ap₂, sym, subst, ◌∙◌}
 use Rattle.std.proofs.lemmas.Bool.{lt-ltb}
-use Rattle.std.specs.Prelude.{IfOk, IsTrue, Option, None, Some, Result, Ok, Err, is_some, not, if◌then◌else◌}
+use Rattle.std.specs.Prelude.{IfOk, IsTrue, Option, None, Some, Result, Ok, Err, is_some, not}
 use Rattle.std.specs.Borrow.{Bor}
 use Rattle.std.specs.Option.{option_copied, option_map}
 use Rattle.nq_logtext.specs.Symbols.{is_symbol}

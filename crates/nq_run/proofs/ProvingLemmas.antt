@@ -1,6 +1,6 @@
 -- The try of a lemma, over a bank that its proof grows.
-use Rattle.std.proofs.Common.{◌≡◌, ℕ, true, Bool, List, [], ◌∷◌, length, refl, ap, ap₂, sym, subst, ◌∙◌, arith}
-use Rattle.std.specs.Prelude.{All, IfSome, Option, None, Some}
+use Rattle.std.proofs.Common.{◌≡◌, ℕ, zero, suc, List, [], ap, sym, subst, ◌∙◌, arith}
+use Rattle.std.specs.Prelude.{All, Option, Some}
 use Rattle.nq_logic.specs.Terms.{Name, Term}
 use Rattle.nq_logic.specs.Histories.{History}
 use Rattle.nq_bank.specs.declared.node.Mark.{Mark}
@@ -9,11 +9,9 @@ use Rattle.nq_bank.specs.declared.node.TermId.{TermId}
 use Rattle.nq_bank.specs.Content.{Content, Grows, IsNamed, Stands, term_at, text_at}
 use Rattle.nq_bank.specs.Marks.{CanRelease, IsMarkOf, released}
 use Rattle.nq_bank.proofs.Growth.{term_at-grown, text_at-grown}
-use Rattle.nq_proof.specs.Rules.{has_only}
+use Rattle.nq_proof.specs.Laws.{LinesHold}
 use Rattle.nq_history.specs.declared.entry.Entry.{Entry}
 use Rattle.nq_history.specs.Events.{events_at, HistoryStands}
-use Rattle.nq_history.specs.Hints.{HintsStand}
-use Rattle.nq_history.specs.declared.hints.Hints.{Hints}
 use Rattle.nq_history.proofs.HistoryLemmas.{events_at-grown}
 use Rattle.nq_kernel.specs.declared.rule.Line.{Line}
 use Rattle.nq_kernel.specs.declared.verdict.Proof.TheVariants.{First, Waterfall}
@@ -21,11 +19,11 @@ use Rattle.nq_kernel.specs.declared.verdict.Quick.{Quick}
 use Rattle.nq_kernel.specs.declared.verdict.Verdict.{Verdict}
 use Rattle.nq_kernel.specs.declared.verdict.Verdict.TheVariants.{Proved, Failed, OutOfSteps, NotYet}
 use Rattle.nq_kernel.specs.declared.work.Work.{Work}
-use Rattle.nq_kernel.specs.Growing.{LogGrows, PrescriptionStands, WorkGrows, WorkStands}
-use Rattle.nq_kernel.specs.Hints.{HintsAreIn}
+use Rattle.nq_kernel.specs.Growing.{PrescriptionStands, WorkStands}
 use Rattle.nq_kernel.specs.Meaning.{IsOver, clause_at}
-use Rattle.nq_kernel.specs.Over.{IsVariable, RulesAreOver, TermIsIn}
+use Rattle.nq_kernel.specs.Over.{TermIsIn}
 use Rattle.nq_kernel.specs.Proving.{IsFirstPass, IsTold}
+use Rattle.nq_kernel.specs.Ready.{WorkHolds}
 use Rattle.nq_block.specs.declared.closing.Closing.TheVariants as closing
 use Rattle.nq_block.specs.Closings.{CanClose, IsFree}
 use Rattle.nq_block.specs.Names.{HasSymbols}
@@ -46,6 +44,13 @@ work_stands history bank work stands bank_is none unknown =
       history = subst (λ (b : Content). HistoryStands b history) (sym bank_is) stands;
       known = subst (All (PrescriptionStands work.bank work.log)) (sym unknown) (λ i d below. absurd (omega (arith, below)));
     }
+
+no_line : (bank : Content) (n : ℕ) (c : List Term) → clause_at bank [] n ≡ Some c → ⊥
+no_line bank zero c e = absurd cc
+no_line bank (suc k) c e = absurd cc
+
+pub no_line_holds : (history : List Entry) (work : Work) → work.log ≡ [] → WorkHolds history work
+no_line_holds history work none = subst (λ (log : List Line). LinesHold (events_at work.bank history) (clause_at work.bank log)) (sym none) (λ n c e. absurd (no_line work.bank n c e))
 
 pub goal_in : (bank later : Content) (history : List Entry) (name : Name) (goal : TermId) → later ≡ bank → IsSpelledFormula (events_at bank history) name (term_at bank goal) → TermIsIn later history goal
 goal_in bank later history name goal same spelled = subst (λ (b : Content). TermIsIn b history goal) (sym same) spelled.claimable.over

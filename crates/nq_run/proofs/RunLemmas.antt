@@ -1,29 +1,25 @@
 -- One form more in a run.
-use Rattle.std.proofs.Common.{◌≡◌, ◌+◌, ◌^◌, ◌≤◌, ◌<◌, ℕ, suc, Bool, true, false, List, [], ◌∷◌, ◌++◌, length, take, drop, Option, ap, sym, subst, ◌∙◌, refl, inl, inr, arith, append_assoc, append-nil, length-append}
-use Rattle.std.specs.Prelude.{◌⊎◌, Result, Ok, Err, OnErr, OnOk, IfOk, Some, None, IfSome, ⊤}
-use Rattle.std.specs.Io.KnownBytes.{Appends, Keeps}
+use Rattle.std.proofs.Common.{◌≡◌, ◌+◌, ◌^◌, ◌<◌, ℕ, suc, Bool, true, false, List, [], ◌∷◌, ◌++◌, length, take, drop, Option, ap, sym, subst, ◌∙◌, refl, inl, inr, arith, append_assoc, append-nil, length-append}
+use Rattle.std.specs.Prelude.{◌⊎◌, Result, Ok, Err, OnErr, OnOk, IfOk, Some, None, IfSome}
+use Rattle.std.specs.Io.KnownBytes.{Appends}
 use Rattle.std.proofs.KnownBytes.{Appends-kept, Appends-nil, Appends-trans}
 use Rattle.std.proofs.lemmas.List.{take-append-drop}
 use Rattle.nq_io.specs.Told.{AppendsPart}
 use Rattle.nq_logic.specs.Histories.{History}
 use Rattle.nq_form.specs.Form.{Form, Forms, end, dotted, next, push}
-use Rattle.nq_form.specs.Grammar.{Ending, Reads, done, fault, none, too_long}
+use Rattle.nq_form.specs.Grammar.{none}
 use Rattle.nq_sexp.specs.Held.{Held}
-use Rattle.nq_sexp.specs.Whole.{SoFar, IsEnding}
-use Rattle.nq_sexp.specs.declared.fault.ReadFault.{ReadFault}
+use Rattle.nq_sexp.specs.Whole.{SoFar}
 use Rattle.nq_comment.specs.Reports.{Report, kind_of}
-use Rattle.nq_comment.specs.Text.{closing_lines, lines_from, lines_of_report, report_lines}
+use Rattle.nq_comment.specs.Text.{lines_from, lines_of_report, report_lines}
 use Rattle.nq_comment.specs.Totals.{Totals, totals_of, with_kind, with_report}
 use Rattle.nq_comment.specs.declared.kind.Kind.{Kind}
 use Rattle.nq_comment.specs.declared.kind.Kind.TheVariants as kind
-use Rattle.nq_comment.specs.ReportViews.{ending_of}
-use Rattle.nq_comment.specs.declared.report.SyntaxFault.{SyntaxFault}
 use Rattle.nq_logic.specs.Classes.{without_classes}
-use Rattle.nq_block.specs.OpenLogs.{IsOpenLog, header_text, end_text}
+use Rattle.nq_block.specs.OpenLogs.{IsOpenLog, header_text}
 use Rattle.nq_block.proofs.OpenLaws.{log_begins_law}
-use Rattle.nq_answers.specs.Claims.{claims_at, claims_from}
-use Rattle.nq_run.proofs.BuiltLemmas.{right_log}
-use Rattle.nq_run.proofs.LogLemmas.{log_more, one_block, logs_after, logs_same, logs_within, logs_within_after, within_after, within_kept, within_whole}
+use Rattle.nq_answers.specs.Claims.{claims_at}
+use Rattle.nq_run.proofs.LogLemmas.{log_more, one_block, logs_after, logs_same, logs_within, logs_within_after, within_after, within_whole}
 use Rattle.nq_run.specs.Outcome as outcome
 use Rattle.nq_run.specs.Outcome.{Answered, Begun, BreaksLast, BreaksReport, CutOff, FilledLog, Finished, FinishedLog, Full, GrowsWithin, Halted, held_in, Interrupted, IsFinishedLog, IsLogOf, LacksLast, last_text, Logs, LogsWithin, PartialLog, Ran, Stopped, Turned, TurnStopped, UnendedLog, WriteFails, WroteWithin}
 use Rattle.nq_answers.specs.Steps.{Runs, Step, after}

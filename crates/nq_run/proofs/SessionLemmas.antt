@@ -1,11 +1,11 @@
 -- What a session is after a form.
-use Rattle.std.proofs.Common.{◌≡◌, ℕ, Bool, true, false, List, [], ◌∷◌, ◌++◌, ◌<◌, ◌≤◌, length, take, refl, ap, ap₂, sym, subst, ◌∙◌, arith, ltb-true}
+use Rattle.std.proofs.Common.{◌≡◌, ℕ, Bool, true, false, List, [], ◌∷◌, ◌++◌, ◌<◌, ◌≤◌, length, take, refl, ap, sym, subst, ◌∙◌, arith, ltb-true}
 use Rattle.std.proofs.lemmas.Bool.{lt-leb}
 use Rattle.std.proofs.lemmas.List.{length-map, length-take, take_all}
 use Rattle.std.specs.Prelude.{All, IsTrue, Err, IfSome, Ok, Option, None, Some, is_some, if◌then◌else◌, nat_eq}
 use Rattle.nq_logtext.specs.Symbols.{is_symbol}
 use Rattle.nq_logic.specs.Terms.{Each, Name}
-use Rattle.nq_logic.specs.Histories.{Event, History}
+use Rattle.nq_logic.specs.Histories.{History}
 use Rattle.nq_logic.specs.Ground.{ground_history}
 use Rattle.nq_logic.specs.Names.{before_event, event_in, event_names, is_in_use, looked_up}
 use Rattle.nq_bank.specs.declared.node.Mark.{Mark}
@@ -15,7 +15,7 @@ use Rattle.nq_bank.specs.Marks.{IsMarkOf, released}
 use Rattle.nq_history.specs.declared.entry.Entry.{Entry}
 use Rattle.nq_history.specs.Events.{all_events_at, event_at, events_at, ground_length, past_ground, EntryStands, HistoryStands}
 use Rattle.nq_history.specs.Marking.{AreMarked, IsMarked}
-use Rattle.nq_history.specs.Lookups.{event_limit, entries_before, entry_named, push_fault, undo_answer, undo_fault, undo_result, IsAnswer, IsUndo}
+use Rattle.nq_history.specs.Lookups.{event_limit, entries_before, entry_named, push_fault, undo_answer, undo_result, IsAnswer, IsUndo}
 use Rattle.nq_history.specs.declared.history.PushFault.{PushFault}
 use Rattle.nq_history.specs.declared.history.PushFault.TheVariants.{Memory, NameInUse, TooManyEvents}
 use Rattle.nq_history.specs.declared.history.UndoFault.{UndoFault}
@@ -26,22 +26,20 @@ use Rattle.nq_history.proofs.MarkingLemmas.{all_within, given_back_marked, given
 use Rattle.nq_kernel.specs.declared.rule.Line.{Line}
 use Rattle.nq_kernel.specs.Growing.{LogGrows}
 use Rattle.nq_kernel.specs.Over.{IsVariable, RulesAreOver}
-use Rattle.nq_kernel.specs.Proving.{AtLeast}
 use Rattle.nq_log.specs.States.{Claim}
-use Rattle.nq_block.specs.declared.closing.Closing.{Closing}
 use Rattle.nq_block.specs.Blocks.{AddsBlock, IsBlock}
-use Rattle.nq_block.specs.Closings.{CanClose, IsFree}
+use Rattle.nq_block.specs.Closings.{IsFree}
 use Rattle.nq_block.specs.Names.{HasSymbols}
 use Rattle.nq_block.proofs.SymbolLaws.{symbols_begin_law, symbols_grow_law, symbols_stay_law}
 use Rattle.nq_comment.specs.ReportViews.{answer_of}
 use Rattle.nq_comment.specs.declared.answer.FormAnswer.{FormAnswer}
 use Rattle.nq_events.specs.OwnRefusals.{refused_if, room_refusal}
 use Rattle.nq_events.specs.Refusals as refusal
-use Rattle.nq_kernel.specs.EventTerms.{HasSpelledTerms}
-use Rattle.nq_run.proofs.TermLemmas.{before_spelled, more_spelled, none_spelled}
+use Rattle.nq_kernel.specs.Ready.{IsReady, IsReadyEvent}
+use Rattle.nq_kernel.proofs.ReadyLemmas.{ready_before, ready_more}
 use Rattle.nq_spelling.specs.SpelledEvents.{FewNamesBegin, FewNamesGrow, FewNamesStay, HasFewNames}
 use Rattle.nq_run.specs.declared.session.Session.{Session}
-use Rattle.nq_run.specs.HistoryView.{history_of, HasSpelledTerm, SessionStands}
+use Rattle.nq_run.specs.HistoryView.{history_of, SessionStands}
 use Rattle.nq_run.specs.Sessions.{IsAdded, IsMarkBefore, IsUntaken}
 
 -- ---- free names
@@ -69,7 +67,7 @@ pub not_too_many : (fault : PushFault) → fault ≡ Memory → fault ≡ TooMan
 not_too_many fault memory many = let same : ◌≡◌ {A = PushFault} Memory TooManyEvents = sym memory ∙ many in cc
 
 -- there is room for an event of a free name
-free_room : (h : History) (n : Name) → IsFree h n → room_refusal h ≡ None
+pub free_room : (h : History) (n : Name) → IsFree h n → room_refusal h ≡ None
 free_room h n free = ap (λ b. refused_if b refusal.TooManyEvents) (lt-leb event_limit (length h) (ltb-true (length h) 10000 free.room))
 
 -- what was added to no text is the block
@@ -98,7 +96,7 @@ ground_stands few session history marked none = record {
   marked = marked;
   symbols = subst HasSymbols (sym none) symbols_begin_law;
   few = subst HasFewNames (sym none) few;
-  terms = subst HasSpelledTerms (sym none) none_spelled;
+  ready = subst IsReady (sym none) tt;
 }
 
 -- ---- a bank that grows under a session
@@ -112,7 +110,7 @@ stands_grown old bank stands grows = record {
   marked = marked_grown old.bank bank old.history grows stands.marked;
   symbols = subst HasSymbols (sym (same_history old bank stands grows)) stands.symbols;
   few = subst HasFewNames (sym (same_history old bank stands grows)) stands.few;
-  terms = subst HasSpelledTerms (sym (same_history old bank stands grows)) stands.terms;
+  ready = subst IsReady (sym (same_history old bank stands grows)) stands.ready;
 }
 
 -- a mark that was just taken
@@ -135,7 +133,7 @@ module _ (old : Session) (mark : Mark) (stands : SessionStands old) (before : Is
     marked = given_back_marked before.earlier old.bank old.history before.grew before.held stands.marked;
     symbols = subst HasSymbols (sym earlier_history) stands.symbols;
     few = subst HasFewNames (sym earlier_history) stands.few;
-    terms = subst HasSpelledTerms (sym earlier_history) stands.terms;
+    ready = subst IsReady (sym earlier_history) stands.ready;
   }
 
   -- the session as it was before the form
@@ -154,17 +152,17 @@ module _ (old : Session) (mark : Mark) (stands : SessionStands old) (before : Is
 -- ---- one event more
 
 pub added_is : FewNamesGrow → (old : Session) (entry : Entry) (name : Name) (later : List Entry) → SessionStands old → IsFree (history_of old) name
-    → Each (λ n. IsTrue (is_symbol n)) (event_names (event_at old.bank entry)) → length (event_names (event_at old.bank entry)) ≤ 24 → HasSpelledTerm (event_at old.bank entry)
+    → Each (λ n. IsTrue (is_symbol n)) (event_names (event_at old.bank entry)) → length (event_names (event_at old.bank entry)) ≤ 24 → IsReadyEvent (history_of old) (event_at old.bank entry)
     → HistoryStands old.bank later → AreMarked old.bank later → events_at old.bank later ≡ history_of old ++ event_at old.bank entry ∷ []
     → IsAdded old entry (record { bank = old.bank; history = later })
-added_is grow old entry name later stands free symbols few term history marked is = record {
+added_is grow old entry name later stands free symbols few ready history marked is = record {
   after = is;
   stands = record {
     history = history;
     marked = marked;
     symbols = subst HasSymbols (sym is) (symbols_grow_law (history_of old) (event_at old.bank entry) stands.symbols symbols);
     few = subst HasFewNames (sym is) (grow (history_of old) (event_at old.bank entry) stands.few (free_room (history_of old) name free) few);
-    terms = subst HasSpelledTerms (sym is) (more_spelled (history_of old) (event_at old.bank entry) stands.terms term);
+    ready = subst IsReady (sym is) (ready_more (history_of old) (event_at old.bank entry) stands.ready ready);
   };
 }
 
@@ -234,7 +232,7 @@ undone_stands stay old new x stands history marked is = record {
   marked = marked;
   symbols = subst HasSymbols (sym is) (symbols_stay_law (history_of old) x stands.symbols);
   few = subst HasFewNames (sym is) (stay (history_of old) x stands.few);
-  terms = subst HasSpelledTerms (sym is) (before_spelled (history_of old) x stands.terms);
+  ready = subst IsReady (sym is) (ready_before (history_of old) x stands.ready);
 }
 
 -- ---- no lines

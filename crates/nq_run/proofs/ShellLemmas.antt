@@ -24,6 +24,7 @@ use Rattle.nq_history.specs.Events.{events_at, EntryStands}
 use Rattle.nq_history.proofs.Lists.{All-none, All-cons}
 use Rattle.nq_shell.specs.Admission.{AreUsed}
 use Rattle.nq_form.specs.Form.{Form}
+use Rattle.nq_kernel.specs.Ready.{IsReadyEvent}
 use Rattle.nq_log.specs.States.{Adds}
 use Rattle.nq_log.specs.ClosingLines.{are_short, has_room}
 use Rattle.nq_block.specs.Blocks.{IsBlock}
@@ -180,6 +181,9 @@ module _ (h : History) (s : logic.Shell) where
     recognizer_spelled = spelled.recognizer_spelled;
     parts_spelled = spelled.parts_spelled;
   }
+
+  pub shell_ready : own_refusal h (model.AddShell s) ≡ None → IsReadyEvent h (logic.AddShell s)
+  shell_ready e = let is = (allowed e).accepted in record { unused = is.unused.0; holds = is; spelled = tt }
 
   pub free_constructor : own_refusal h (model.AddShell s) ≡ None → IsSpelledShell s → IsFree h s.constructor
   free_constructor e spelled = record { symbol = spelled.constructor_spelled; unused = (allowed e).accepted.unused.0; room = room e }

@@ -4,3 +4,4 @@ pub mod ShellNames
 pub mod Outcome
 pub mod Sessions
 pub mod RunFaults
+pub mod RunHistories

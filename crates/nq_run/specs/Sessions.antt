@@ -30,7 +30,7 @@ use Rattle.nq_run.specs.declared.proving.Tried.{Tried}
 use Rattle.nq_answers.specs.Claims.{claims_at, claims_of}
 use Rattle.nq_run.specs.HistoryView.{history_of, SessionStands}
 use Rattle.nq_run.specs.Outcome.{AreBlocks}
-use Rattle.nq_answers.specs.Steps.{Answers, AnswersUnless, IsTried, after, after_event, is_taken, not_yet, untaken}
+use Rattle.nq_answers.specs.Steps.{Answers, AnswersUnless, IsTried, after, after_event, is_taken, untaken}
 
 -- the fragment is the first that holds the term; where there is none, no fragment holds it
 abbrev pub IsFoundBy : History → Term → Option Quick → Type 0

@@ -30,4 +30,8 @@ mod outputs;
 // the loop over the forms
 mod runs;
 
+// what holds of the history of every run
+mod histories;
+
+pub use histories::runs_make_histories;
 pub use runs::{Ended, RunFault, run_events};

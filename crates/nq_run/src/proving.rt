@@ -4,10 +4,10 @@ ghost use Rattle.nq_bank.specs.Content.{IsNamed, Stands, term_at, text_at};
 ghost use Rattle.nq_bank.specs.Marks.{CanRelease, released};
 ghost use Rattle.nq_history.specs.Events.{events_at, HistoryStands};
 ghost use Rattle.nq_history.specs.Hints.{HintsStand};
-ghost use Rattle.nq_kernel.specs.EventTerms.{HasSpelledTerms};
 ghost use Rattle.nq_kernel.specs.Growing.{LogGrows};
 ghost use Rattle.nq_kernel.specs.Hints.{HintsAreIn};
 ghost use Rattle.nq_kernel.specs.Over.{IsVariable, RulesAreOver};
+ghost use Rattle.nq_kernel.specs.Ready.{IsReady};
 ghost use Rattle.nq_block.specs.Blocks.{IsBlock};
 ghost use Rattle.nq_block.specs.Closings.{CanClose, ClosingStands, IsFree, claim_at};
 ghost use Rattle.nq_block.specs.Names.{HasSymbols};
@@ -67,7 +67,7 @@ pub(crate) fn try_lemma<P: Prover>(
     requires name { IsNamed bank lemma.name }
     requires goal { Stands bank lemma.goal }
     requires hints { HintsStand bank lemma.hints.now }
-    requires terms { HasSpelledTerms (events_at bank history.now) }
+    requires ready { IsReady (events_at bank history.now) }
     requires hint_terms { HintsAreIn bank history.now lemma.hints.now }
     requires spelled { IsSpelledFormula (events_at bank history.now) (text_at bank lemma.name) (term_at bank lemma.goal) }
     requires free { IsFree (events_at bank history.now) (text_at bank lemma.name) }

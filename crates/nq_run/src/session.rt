@@ -8,6 +8,7 @@ ghost use Rattle.nq_logic.specs.Terms.{Each};
 ghost use Rattle.nq_logtext.specs.Symbols.{is_symbol};
 ghost use Rattle.nq_bank.specs.Content.{text_at};
 ghost use Rattle.nq_history.specs.Events.{event_at, ground_length, EntryStands};
+ghost use Rattle.nq_kernel.specs.Ready.{IsReadyEvent};
 ghost use Rattle.nq_block.specs.Blocks.{IsBlock};
 ghost use Rattle.nq_block.specs.Closings.{CanClose, ClosingStands, IsFree, claim_at};
 ghost use Rattle.nq_comment.specs.ReportViews.{answer_of};
@@ -15,7 +16,7 @@ ghost use Rattle.nq_comment.specs.declared.answer.FormAnswer.TheVariants as answ
 ghost use Rattle.nq_events.specs.OwnRefusals.{room_refusal};
 ghost use Rattle.nq_event.specs.EventsAt.{EventStands, event_at as event_read};
 ghost use Rattle.nq_spelling.specs.Spelled.{IsSpelled};
-ghost use Rattle.nq_run.specs.HistoryView.{history_of, HasSpelledTerm, SessionStands};
+ghost use Rattle.nq_run.specs.HistoryView.{history_of, SessionStands};
 ghost use Rattle.nq_run.specs.Sessions.{IsAdded, IsMarkBefore, IsUntaken, Takes, TakesEvent};
 ghost use Rattle.nq_spelling.specs.SpelledEvents.{IsSpelledEvent};
 ghost use Rattle.nq_answers.specs.Steps.{not_yet, refused};
@@ -235,7 +236,7 @@ impl Session {
         requires free { IsFree (history_of self) (text_at self.bank entry.name) }
         requires symbols { Each (λ n. IsTrue (is_symbol n)) (event_names (event_at self.bank entry)) }
         requires few { length (event_names (event_at self.bank entry)) ≤ 24 }
-        requires term { HasSpelledTerm (event_at self.bank entry) }
+        requires ready { IsReadyEvent (history_of self) (event_at self.bank entry) }
         ensures added { IfOk result (IsAdded self entry) }
         ensures learnt { IfOk result (λ s. P.has_learnt prover.new s.history) }
     {
@@ -265,7 +266,7 @@ impl Session {
         requires free { IsFree (history_of self) (text_at self.bank entry.name) }
         requires symbols { Each (λ n. IsTrue (is_symbol n)) (event_names (event_at self.bank entry)) }
         requires few { length (event_names (event_at self.bank entry)) ≤ 24 }
-        requires term { HasSpelledTerm (event_at self.bank entry) }
+        requires ready { IsReadyEvent (history_of self) (event_at self.bank entry) }
         ensures added { IfOk result (λ r. IsAdded self entry r.session) }
         ensures answer { IfOk result (λ r. r.answer ≡ answers.Accepted) }
         ensures block { IfOk result (λ r. r.block ≡ block) }

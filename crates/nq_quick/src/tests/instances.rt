@@ -3,25 +3,26 @@ ghost use Rattle.std.specs.Prelude.{◌≡◌, nat_lt, length, IfOk, OnOk};
 ghost use Rattle.nq_bank.specs.Content.{IsNamed, Stands};
 ghost use Rattle.nq_history.specs.Events.{events_at, HistoryStands};
 ghost use Rattle.nq_kernel.specs.Over.{TermIsIn};
-ghost use Rattle.nq_kernel.specs.EventTerms.{HasSpelledTerms};
+ghost use Rattle.nq_kernel.specs.Ready.{IsReady};
 
 use super::{is_in, proof_in, stands, term};
 use crate::earlier::earlier_instance;
 use nq_bank::{Bank, Sym, TermId};
 use nq_history::{Entry, EntryKind, History, PushFault};
 use nq_kernel::Quick;
+use std::alloc::Global;
 use std::process::Abort;
 use std::test::Fail;
 
 /// Adds an axiom.
 fn push_axiom(bank: &Bank, history: &mut History, name: Sym, t: TermId) -> Result<(), PushFault>
     requires stands { HistoryStands bank.now history.old }
-    requires spelled { HasSpelledTerms (events_at bank.now history.old) }
+    requires ready { IsReady (events_at bank.now history.old) }
     requires name { IsNamed bank.now name }
     requires term { Stands bank.now t }
     requires over { TermIsIn bank.now history.old t }
     ensures stands { OnOk result (HistoryStands bank.now history.new) }
-    ensures spelled { OnOk result (HasSpelledTerms (events_at bank.now history.new)) }
+    ensures ready { OnOk result (IsReady (events_at bank.now history.new)) }
 {
     let entry = Entry {
         name,
@@ -47,11 +48,12 @@ fn add_axiom(
     axiom: TermId,
 )
     requires stands { HistoryStands bank.now history.old }
-    requires spelled { HasSpelledTerms (events_at bank.now history.old) }
+    requires ready { IsReady (events_at bank.now history.old) }
     ensures stands { HistoryStands bank.now history.new }
-    ensures spelled { HasSpelledTerms (events_at bank.now history.new) }
+    ensures ready { IsReady (events_at bank.now history.new) }
 {
-    assert!(rt; named(bank, name) && stands(bank, axiom));
+    assert!(rt; named(bank, name));
+    assert!(rt; stands(bank, axiom));
     assert!(rt; is_in(bank, history, first, axiom));
     let pushed = push_axiom(bank, history, name, axiom);
     assert!(rt; pushed.is_ok());
@@ -65,7 +67,7 @@ pub(super) fn history_with(
     axiom: TermId,
 ) -> Result<History, Fail>
     ensures stands { IfOk result (HistoryStands bank.new) }
-    ensures spelled { IfOk result (λ h. HasSpelledTerms (events_at bank.new h)) }
+    ensures ready { IfOk result (λ h. IsReady (events_at bank.new h)) }
 {
     let made = bank.len();
     let mut history = History::ground(bank)?;
@@ -73,46 +75,59 @@ pub(super) fn history_with(
     Ok(history)
 }
 
+/// The way in which the first pass proves a goal in the ground history with an axiom.
+fn way_of(rt: &impl Abort, alloc: Global, axiom: &str, goal: &str) -> Result<Option<Quick>, Fail> {
+    let mut bank = Bank::new(alloc)?;
+    let name = bank.name(b"FIRST")?;
+    let pattern = term(rt, &mut bank, axiom.as_bytes())?;
+    let goal = term(rt, &mut bank, goal.as_bytes())?;
+    let made = bank.len();
+    let history = history_with(rt, &mut bank, name, pattern)?;
+    let found = proof_in(rt, bank, &history, made, goal)?;
+    Ok(found.map(|f| f.0))
+}
+
 #[test]
 fn instances_of_an_axiom_are_proved(rt: HostRuntime) -> Result<(), Fail> {
-    for (axiom, text, way) in [
-        ("$X", "$P", Some(Quick::Inst)),
-        ("$X", "$X", Some(Quick::Inst)),
-        ("$X", "$$!P", Some(Quick::Inst)),
-        ("X", "$P", Some(Quick::Inst)),
-        ("$X", "P", None),
-        ("$X", "!P", None),
-        ("$$X", "$P", None),
+    for (axiom, goal) in [
+        ("$X", "$$!P"),
+        ("X", "$P"),
         // a variable stands for one term
-        ("~XX", "~$P$P", Some(Quick::Inst)),
-        ("~XX", "~P$P", None),
-        ("~XQ", "~PP", Some(Quick::Inst)),
+        ("~XX", "~$P$P"),
         // all variables are replaced at once
-        ("~XQ", "~QX", Some(Quick::Inst)),
-        ("~$X$Q", "~$$Q$X", Some(Quick::Inst)),
+        ("~$X$Q", "~$$Q$X"),
         // a numeral above 0 is a call of ADD1
-        ("~+XX", "~43", Some(Quick::Inst)),
-        ("~+XX", "~33", None),
-        ("$+X", "$7", Some(Quick::Inst)),
-        ("$++X", "$2", Some(Quick::Inst)),
-        ("$+++X", "$2", None),
-        ("$2", "$2", Some(Quick::Inst)),
-        ("$2", "$3", None),
-        // a tautology is proved as such, though it is an instance
-        (">XX", ">PP", Some(Quick::Taut)),
-        (">XX", ">$P$P", Some(Quick::Taut)),
-        (">XQ", ">PP", Some(Quick::Taut)),
-        (">XQ", ">PQ", Some(Quick::Inst)),
+        ("~+XX", "~43"),
+        ("$++X", "$2"),
+        ("$2", "$2"),
+        (">XQ", ">PQ"),
     ] {
-        let mut bank = Bank::new(rt.alloc())?;
-        let name = bank.name(b"FIRST")?;
-        let pattern = term(&rt, &mut bank, axiom.as_bytes())?;
-        let goal = term(&rt, &mut bank, text.as_bytes())?;
-        let made = bank.len();
-        let history = history_with(&rt, &mut bank, name, pattern)?;
-        let found = proof_in(&rt, bank, &history, made, goal)?;
-        assert!(rt; found.map(|f| f.0) == way, "{axiom} {text}");
+        let way = way_of(&rt, rt.alloc(), axiom, goal)?;
+        assert!(rt; way == Some(Quick::Inst), "{axiom} {goal}");
     }
+    Ok(())
+}
+
+#[test]
+fn goals_that_are_no_instances_are_not_proved(rt: HostRuntime) -> Result<(), Fail> {
+    for (axiom, goal) in [
+        ("$X", "!P"),
+        ("$$X", "$P"),
+        ("~XX", "~P$P"),
+        ("~+XX", "~33"),
+        ("$+++X", "$2"),
+        ("$2", "$3"),
+    ] {
+        let way = way_of(&rt, rt.alloc(), axiom, goal)?;
+        assert!(rt; way.is_none(), "{axiom} {goal}");
+    }
+    Ok(())
+}
+
+#[test]
+fn a_tautology_is_proved_as_such_though_it_is_an_instance(rt: HostRuntime) -> Result<(), Fail> {
+    let way = way_of(&rt, rt.alloc(), ">XQ", ">$P$P")?;
+    assert!(rt; way == Some(Quick::Taut));
     Ok(())
 }
 
@@ -124,12 +139,25 @@ fn history_with_two(
     axioms: (TermId, TermId),
 ) -> Result<History, Fail>
     ensures stands { IfOk result (HistoryStands bank.new) }
-    ensures spelled { IfOk result (λ h. HasSpelledTerms (events_at bank.new h)) }
 {
     let made = bank.len();
     let mut history = history_with(rt, bank, names.0, axioms.0)?;
     add_axiom(rt, bank, &mut history, made, names.1, axioms.1);
     Ok(history)
+}
+
+/// The numbers of the name and the term of the axiom that a goal is an instance of.
+fn found_for(
+    rt: &impl Abort,
+    bank: &Bank,
+    history: &History,
+    goal: TermId,
+) -> Result<Option<(u64, u64)>, Fail>
+    requires { HistoryStands bank.now history.now }
+{
+    assert!(rt; stands(bank, goal));
+    let found = earlier_instance(bank, history, goal)?;
+    Ok(found.map(|earlier| (earlier.name.0, earlier.term.0)))
 }
 
 #[test]
@@ -141,11 +169,7 @@ fn the_oldest_axiom_is_taken(rt: HostRuntime) -> Result<(), Fail> {
     let narrower = term(&rt, &mut bank, b"$$X")?;
     let goal = term(&rt, &mut bank, b"$$P")?;
     let history = history_with_two(&rt, &mut bank, (first, second), (pattern, narrower))?;
-    assert!(rt; stands(&bank, goal));
-    let found = earlier_instance(&bank, &history, goal)?;
-    assert!(rt; found.is_some());
-    if let Some(earlier) = found {
-        assert!(rt; earlier.name.0 == first.0 && earlier.term.0 == pattern.0);
-    }
+    let found = found_for(&rt, &bank, &history, goal)?;
+    assert!(rt; found == Some((first.0, pattern.0)));
     Ok(())
 }

@@ -1,6 +1,8 @@
 use Rattle.std.proofs.Common.{◌∙◌, ap}
 use Rattle.nq_clause.specs.Binding.{bindings_at}
+use Rattle.nq_history.specs.Events.{events_at}
 use Rattle.nq_kernel.specs.declared.work.Work.{Work}
+use Rattle.nq_kernel.proofs.ReadyLemmas.{ready_spelled}
 use Rattle.nq_steps.proofs.NameLemmas.{no_names}
 use Rattle.nq_quick.specs.Lines.{GrowsUncounted}
 use Rattle.nq_quick.proofs.LineLemmas.{grown_trans}
@@ -26,7 +28,7 @@ pub add_event_instance-requires-clause-instance : goal.add_event_instance-requir
 add_event_instance-requires-clause-instance c =
     let first : GrowsUncounted c.args.history.now c.args.work.now (record c.args.work.now { bank = c.pairs_of.new.bank }) = bank_uncounted c.args.history.now c.args.work.now c.pairs_of.new.bank c.requires.stands c.pairs_of.ensures.grows (no_names c.args.work.now.bank c.pairs_of.new.bank c.pairs_of.ensures.names) in
     can_grown c.pairs_of.new.bank c.add_event.new.work.bank c.args.history.now c.args.found.now.term c.args.goal c.in_ok-pairs.pairs.items c.add_event.ensures.grows.grows.bank first.grows.stands.history
-    (can_start c.args.work.now.bank c.pairs_of.new.bank c.args.history.now c.args.goal c.args.found.now c.in_ok-pairs.pairs.items c.pairs_of.ensures.grows c.requires.stands.history c.requires.goal c.requires.over c.requires.spelled c.requires.found (c.in_ok-pairs.ensures.pairs ∙ ap (bindings_at c.args.work.now.bank) c.as_slice.ensures.value) c.in_ok-pairs.ensures.stand)
+    (can_start c.args.work.now.bank c.pairs_of.new.bank c.args.history.now c.args.goal c.args.found.now c.in_ok-pairs.pairs.items c.pairs_of.ensures.grows c.requires.stands.history c.requires.goal c.requires.over (ready_spelled (events_at c.args.work.now.bank c.args.history.now) c.requires.ready) c.requires.found (c.in_ok-pairs.ensures.pairs ∙ ap (bindings_at c.args.work.now.bank) c.as_slice.ensures.value) c.in_ok-pairs.ensures.stand)
 
 pub returns-clause-grows : goal.returns-clause-grows
 returns-clause-grows c =

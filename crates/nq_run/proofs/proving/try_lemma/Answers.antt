@@ -1,17 +1,21 @@
-use Rattle.std.proofs.Common.{◌≡◌, List, ap, subst, sym, ◌∙◌, ℕ}
+use Rattle.std.proofs.Common.{List, ap, subst, sym, ◌∙◌, ℕ}
 use Rattle.std.specs.Prelude.{Option}
 use Rattle.nq_bank.specs.Content.{Content, term_at, text_at}
 use Rattle.nq_bank.specs.Marks.{released}
 use Rattle.nq_history.specs.Events.{events_at}
-use Rattle.nq_kernel.specs.EventTerms.{HasSpelledTerms}
+use Rattle.nq_kernel.specs.Ready.{IsReady}
 use Rattle.nq_kernel.specs.declared.verdict.Quick.{Quick}
 use Rattle.nq_run.specs.Outcome.{AreBlocks}
 use Rattle.nq_run.specs.Sessions.{IsFoundBy, found_claims}
-use Rattle.nq_run.proofs.ProvingLemmas.{found_before, free_kept, given_back_is, shown_kept, spelled_kept, symbols_kept, written_before}
+use Rattle.nq_run.proofs.ProvingLemmas.{found_before, free_kept, given_back_is, no_line_holds, shown_kept, spelled_kept, symbols_kept, written_before}
 use Rattle.nq_run.proofs.proving.try_lemma.Goals as goal
 
-pub prove-requires-clause-spelled : goal.prove-requires-clause-spelled
-prove-requires-clause-spelled g c = subst (λ (b : Content). HasSpelledTerms (events_at b c.args.history.now)) (sym c.new-work.ensures.bank) c.requires.terms
+pub prove-requires-clause-ready : goal.prove-requires-clause-ready
+prove-requires-clause-ready g c = subst (λ (b : Content). IsReady (events_at b c.args.history.now)) (sym c.new-work.ensures.bank) c.requires.ready
+
+-- no line stands yet
+pub prove-requires-clause-holds : goal.prove-requires-clause-holds
+prove-requires-clause-holds g c = no_line_holds c.args.history.now c.new-work.result (c.new-work.ensures.log ∙ c.new.ensures)
 
 pub tried_by-requires-clause-symbols : goal.tried_by-requires-clause-symbols
 tried_by-requires-clause-symbols g c =

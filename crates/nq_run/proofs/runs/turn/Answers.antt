@@ -7,7 +7,7 @@ use Rattle.nq_comment.specs.Totals.{totals_in, with_kind}
 use Rattle.nq_comment.specs.declared.kind.Kind.{Kind}
 use Rattle.nq_answers.specs.Headers.{name_of, word_of}
 use Rattle.nq_run.specs.HistoryView.{history_of}
-use Rattle.nq_run.proofs.LogLemmas.{kept_same, logs_within_none, within_whole}
+use Rattle.nq_run.proofs.LogLemmas.{kept_same, within_whole}
 use Rattle.nq_run.proofs.RunLemmas.{appends_as, log_within_as, writes_fail, logs_as, on_err, within_as}
 use Rattle.nq_run.proofs.TurnLemmas.{answered_as, answered_here, answered_logging, reported_as, reports_alike}
 use Rattle.nq_run.proofs.runs.turn.Goals as goal

@@ -13,12 +13,12 @@ use Rattle.nq_block.proofs.writer.Writer.definition.Goals as goal
 
 pub returns : goal.returns
 returns c =
-    λ frame v parts cases can.
+    λ frame v alone parts cases can.
     let first = c.in_ok-term.ensures.writing frame v can.claimable.over in
     let second = c.in_ok-formals.ensures.writing frame first can.spelled in
     let written = c.in_ok-formals.ensures.keeps.terms c.args.t c.in_ok-term.ensures.written in
     on_ok_weaker c.put.result
-    (λ adds. definition_closed c.args.bank.now frame c.variables_of.new.self c.put.new.self second parts cases (text_at c.args.bank.now c.args.name) c.args.formals.now c.args.t c.number-body.result c.in_ok-formals.formals.items written c.number-body.ensures
+    (λ adds. definition_closed c.args.bank.now frame c.variables_of.new.self c.put.new.self second alone parts cases (text_at c.args.bank.now c.args.name) c.args.formals.now c.args.t c.number-body.result c.in_ok-formals.formals.items written c.number-body.ensures
     c.in_ok-formals.ensures.written c.in_ok-formals.ensures.numbers can
     (subst (λ x. AddsLine (after word.Defn (name x ∷ number c.number-body.result ∷ flat_map one_number c.in_ok-formals.formals.items)) c.variables_of.new.self c.put.new.self) (c.in_ok-function.ensures ∙ c.text.ensures.value) adds))
     c.put.ensures.line

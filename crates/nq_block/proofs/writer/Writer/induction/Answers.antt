@@ -2,10 +2,11 @@ use Rattle.std.proofs.Common.{◌≡◌, ap, ◌∙◌, subst, sym, take, List, 
 use Rattle.std.proofs.lemmas.Result.{on_ok_weaker}
 use Rattle.std.proofs.lemmas.List.{take_all}
 use Rattle.nq_bank.specs.Content.{term_at}
-use Rattle.nq_proof.specs.Rules.{CaseLines, Induct, conclusion}
+use Rattle.nq_proof.specs.Rules.{CaseLines, Induct, conclusion, rule_terms}
+use Rattle.nq_log.specs.RuleLines.{are_without}
 use Rattle.nq_rule.specs.declared.induction.CaseOfInduction.{CaseOfInduction}
 use Rattle.nq_rule.specs.Inductions.{case_at, cases_at}
-use Rattle.nq_block.specs.Writing.{Frame, CanDistinguish, IsWriting, line_clause, with_line}
+use Rattle.nq_block.specs.Writing.{Frame, Concludes, CanDistinguish, IsWriting, line_clause, with_line}
 use Rattle.nq_block.proofs.Keeping.{each_made, fits}
 use Rattle.nq_block.proofs.InductionLemmas.{cases_can, cases_next, induct_written}
 use Rattle.nq_block.proofs.writer.Writer.induction.Goals as goal
@@ -42,11 +43,14 @@ returns-clause-rule c =
     let cases = cases_at bank c.args.cases.now in
     let so_far : Frame = record frame { cases = cases_at bank (take c.loop-case.case-index c.args.cases.now) } in
     let all : cases_at bank (take c.loop-case.case-index c.args.cases.now) ≡ cases = ap (cases_at bank) (take_all c.loop-case.case-index c.args.cases.now c.loop-case-test.false) in
-    let can = cases_can frame p m c.args.ordinal c.args.base cases clause concluded over.terms.1.1 over.names in
+    let can = cases_can frame p m c.args.ordinal c.args.base cases clause concluded.clause over.terms.1.1 over.names in
     let first = c.in_ok-term.ensures.writing so_far (c.loop-case.invariant.writing frame v none can) over.terms.0 in
     let second = c.in_ok-term-2.ensures.writing so_far first over.terms.1.0 in
-    let allowed : conclusion frame.history (line_clause frame) (Induct p m c.args.ordinal c.args.base (cases_at bank (take c.loop-case.case-index c.args.cases.now))) ≡ Some clause =
-    ap (λ cs. conclusion frame.history (line_clause frame) (Induct p m c.args.ordinal c.args.base cs)) all ∙ concluded in
+    let allowed : Concludes so_far (Induct p m c.args.ordinal c.args.base so_far.cases) clause =
+    record {
+      clause = ap (λ cs. conclusion frame.history (line_clause frame) (Induct p m c.args.ordinal c.args.base cs)) all ∙ concluded.clause;
+      without = ap (λ cs. are_without frame.introduced (rule_terms (Induct p m c.args.ordinal c.args.base cs))) all ∙ concluded.without;
+    } in
     on_ok_weaker c.put.result
     (λ adds.
     subst (λ (cs : List CaseLines). IsWriting bank (with_line (record frame { cases = cs }) clause) c.put.new.self) (sym none)

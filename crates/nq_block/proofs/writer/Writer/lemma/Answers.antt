@@ -12,9 +12,9 @@ use Rattle.nq_block.proofs.writer.Writer.lemma.Goals as goal
 
 pub returns : goal.returns
 returns c =
-    λ frame v parts cases can.
+    λ frame v alone parts cases can.
     let now = c.in_ok-term.ensures.writing frame v can.claimable.over in
     on_ok_weaker c.put.result
-    (λ adds. lemma_closed c.args.bank.now frame c.term.new.self c.put.new.self now parts cases (text_at c.args.bank.now c.args.name) c.args.t c.args.line c.number-term.result (fits c.args.line c.ranges.line) c.in_ok-term.ensures.written c.number-term.ensures can
+    (λ adds. lemma_closed c.args.bank.now frame c.term.new.self c.put.new.self now alone parts cases (text_at c.args.bank.now c.args.name) c.args.t c.args.line c.number-term.result (fits c.args.line c.ranges.line) c.in_ok-term.ensures.written c.number-term.ensures can
     (subst (λ x. AddsLine (after word.Lemma (name x ∷ number c.number-term.result ∷ number c.args.line ∷ [])) c.term.new.self c.put.new.self) (c.in_ok-name.ensures ∙ c.text.ensures.value) adds))
     c.put.ensures.line

@@ -1,5 +1,6 @@
-use Rattle.std.proofs.Common.{arith}
+use Rattle.std.proofs.Common.{arith, length, rules, subst, ◌≡◌}
 use Rattle.std.specs.Prelude.{Ok}
+use Rattle.nq_block.specs.Writing.{IsWriting, frame_after}
 use Rattle.nq_block.proofs.BlockLemmas.{rule_stands_at, rule_goes_on}
 use Rattle.nq_block.proofs.writer.Writer.rules.Goals as goal
 
@@ -10,5 +11,11 @@ pub loop-k-preserved : goal.loop-k-preserved
 loop-k-preserved c =
     record {
       counted = c.in_ok-rule.ensures.counted;
-      writing = rule_goes_on c.args.bank.now c.args.history.now c.args.log.now c.requires.legal c.requires.over c.loop-k.k c.rule-line.result.now c.loop-k.self c.rule.new.self (Ok c.in_ok-rule.field-0) (omega arith) c.rule-line.ensures c.loop-k.invariant.writing c.in_ok-rule.ensures.rule;
+      writing = λ introduced v. rule_goes_on c.args.bank.now c.args.history.now c.args.log.now c.requires.legal c.requires.over introduced c.loop-k.k c.rule-line.result.now c.loop-k.self c.rule.new.self (Ok c.in_ok-rule.field-0) (omega arith) c.rule-line.ensures (c.loop-k.invariant.writing introduced v) c.in_ok-rule.ensures.rule;
     }
+
+pub returns-clause-writing : goal.returns-clause-writing
+returns-clause-writing c =
+    λ introduced v.
+    let all : c.loop-k.k ≡ length c.args.log.now = search rules in
+    subst (λ n. IsWriting c.args.bank.now (frame_after c.args.bank.now c.args.history.now introduced c.args.log.now n) c.loop-k.self) all (c.loop-k.invariant.writing introduced v)

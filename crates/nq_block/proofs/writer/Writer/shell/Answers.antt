@@ -14,7 +14,7 @@ use Rattle.nq_block.proofs.writer.Writer.shell.Goals as goal
 
 pub returns : goal.returns
 returns c =
-    λ frame v parts cases can.
+    λ frame v alone parts cases can.
     let bank = c.args.bank.now in
     let shell = c.args.shell.now in
     let mid = c.parts.new.self in
@@ -23,7 +23,7 @@ returns c =
     let first = c.in_ok-parts.ensures.writing frame v (subst (Each IsPartSpelled) (sym same) can.parts_spelled) in
     let whole = ap (λ ps. ps ++ parts_at bank c.as_slice.result.now) parts ∙ same in
     on_ok_weaker c.put.result
-    (λ adds. shell_closed bank (with_parts frame (parts_at bank c.as_slice.result.now)) mid new first (shell_at bank shell) whole cases can
+    (λ adds. shell_closed bank (with_parts frame (parts_at bank c.as_slice.result.now)) mid new first (shell_at bank shell) alone whole cases can
     (subst (λ r. AddsLine (after word.Shell (name (text_at bank shell.constructor) ∷ name (base_text (text_if bank shell.base)) ∷ name r ∷ [])) mid new) (c.in_ok-recognizer.ensures ∙ c.text-2.ensures.value)
     (subst (λ b. AddsLine (after word.Shell (name (text_at bank shell.constructor) ∷ name b ∷ name c.in_ok-recognizer.recognizer ∷ [])) mid new) c.in_ok-base.ensures
     (subst (λ x. AddsLine (after word.Shell (name x ∷ name c.in_ok-base.base ∷ name c.in_ok-recognizer.recognizer ∷ [])) mid new) (c.in_ok-constructor.ensures ∙ c.text.ensures.value) adds))))

@@ -11,8 +11,8 @@ use Rattle.nq_block.proofs.writer.Writer.undo.Goals as goal
 
 pub returns : goal.returns
 returns c =
-    λ frame v parts cases can.
+    λ frame v alone parts cases can.
     on_ok_weaker c.put.result
-    (λ adds. undo_closed c.args.bank.now frame c.args.self.now c.put.new.self v parts cases (text_at c.args.bank.now c.args.name) can
+    (λ adds. undo_closed c.args.bank.now frame c.args.self.now c.put.new.self v alone parts cases (text_at c.args.bank.now c.args.name) can
     (subst (λ x. AddsLine (after word.Undo (name x ∷ [])) c.args.self.now c.put.new.self) (c.in_ok-name.ensures ∙ c.text.ensures.value) adds))
     c.put.ensures.line

@@ -1,8 +1,7 @@
-use Rattle.std.proofs.Common.{List, [], map, ap, sym, subst, ◌∙◌}
+use Rattle.std.proofs.Common.{List, map, ap, sym, ◌∙◌}
 use Rattle.std.specs.Option.{option_map}
 use Rattle.nq_sexp.specs.Tree.{tree}
 use Rattle.nq_logic.specs.Histories as logic
-use Rattle.nq_logic.specs.Ground.{symbols_of}
 use Rattle.nq_bank.specs.Content.{term_at, text_at}
 use Rattle.nq_history.specs.declared.entry.Class.{Class}
 use Rattle.nq_history.specs.declared.entry.Entry.{Entry}
@@ -11,6 +10,7 @@ use Rattle.nq_history.specs.Events.{class_of}
 use Rattle.nq_comment.specs.ReportViews.{answer_of}
 use Rattle.nq_events.specs.Events as model
 use Rattle.nq_run.specs.HistoryView.{history_of}
+use Rattle.nq_run.proofs.ReadyLemmas.{axiom_ready}
 use Rattle.nq_run.proofs.TakingLemmas.{axiom_taken_on, free_name, hindered}
 use Rattle.nq_run.proofs.session.Session.add_axiom.Goals as goal
 
@@ -29,8 +29,12 @@ accepted-requires-clause-free g c =
     free_name (history_of c.args.self) (tree c.args.given.form.now) (text_at bank c.args.name) (map class_of c.args.classes.now) (term_at bank c.args.term)
     (sym c.in_ok-answer.ensures ∙ ap (option_map answer_of) c.in-None.is) c.requires.spelled
 
-pub accepted-requires-clause-term : goal.accepted-requires-clause-term
-accepted-requires-clause-term g c = record { symbols = symbols_of (history_of c.args.self); over = c.requires.spelled.claimable.over }
+pub accepted-requires-clause-ready : goal.accepted-requires-clause-ready
+accepted-requires-clause-ready g c =
+    let bank = c.args.self.bank in
+    axiom_ready (history_of c.args.self) (text_at bank c.args.name)
+    (free_name (history_of c.args.self) (tree c.args.given.form.now) (text_at bank c.args.name) (map class_of c.args.classes.now) (term_at bank c.args.term)
+    (sym c.in_ok-answer.ensures ∙ ap (option_map answer_of) c.in-None.is) c.requires.spelled) (map class_of c.new.result.items) (term_at bank c.args.term) c.requires.spelled
 
 pub returns-in-Some-clause-taken : goal.returns-in-Some-clause-taken
 returns-in-Some-clause-taken g c =

@@ -17,5 +17,5 @@ pub returns-clause-added : goal.returns-clause-added
 returns-clause-added g c =
     let old = c.args.self in
     let entry = c.args.entry in
-    added_is c.events_are_spelled.ensures.grow old entry (text_at old.bank entry.name) c.push.new.self c.requires.stands c.requires.free c.requires.symbols c.requires.few c.requires.term c.in-Ok.ensures.stands
+    added_is c.events_are_spelled.ensures.grow old entry (text_at old.bank entry.name) c.push.new.self c.requires.stands c.requires.free c.requires.symbols c.requires.few c.requires.ready c.in-Ok.ensures.stands
     (c.in-Ok.ensures.marked c.requires.stands.marked (marked_before old.bank old.history entry c.requires.mark)) c.in-Ok.ensures.event

@@ -12,6 +12,7 @@ use Rattle.nq_comment.specs.ReportViews.{answer_of}
 use Rattle.nq_events.specs.Events as model
 use Rattle.nq_run.specs.HistoryView.{history_of}
 use Rattle.nq_run.proofs.NameLemmas.{accepted, dcl_free, none_told, some_told}
+use Rattle.nq_run.proofs.ReadyLemmas.{declared_ready}
 use Rattle.nq_run.proofs.TakingLemmas.{hindered}
 use Rattle.nq_run.proofs.session.Session.declare.Goals as goal
 
@@ -32,6 +33,13 @@ accepted-requires-clause-free g c =
     let bank = c.args.self.bank in
     dcl_free (history_of c.args.self) (text_at bank c.args.name) (texts_at bank c.args.formals.now) c.requires.spelled.symbol
     (none_told c.in_ok-answer.field-0 _ c.in_ok-answer.ensures c.in_default.is)
+
+pub accepted-requires-clause-ready : goal.accepted-requires-clause-ready
+accepted-requires-clause-ready g c =
+    let bank = c.args.self.bank in
+    declared_ready (history_of c.args.self) (text_at bank c.args.name)
+    (dcl_free (history_of c.args.self) (text_at bank c.args.name) (texts_at bank c.args.formals.now) c.requires.spelled.symbol
+    (none_told c.in_ok-answer.field-0 _ c.in_ok-answer.ensures c.in_default.is)) (length c.args.formals.now)
 
 pub returns-clause-taken : goal.returns-clause-taken
 returns-clause-taken g c =

@@ -11,7 +11,7 @@ use Rattle.nq_block.specs.Closings.{CanDefine, defined_at}
 use Rattle.nq_comment.specs.ReportViews.{answer_of}
 use Rattle.nq_events.specs.Events as model
 use Rattle.nq_run.specs.HistoryView.{history_of}
-use Rattle.nq_run.proofs.DefinitionLemmas.{defn_closes, defn_hindered, defn_taken}
+use Rattle.nq_run.proofs.DefinitionLemmas.{defn_closes, defn_hindered, defn_ready, defn_taken}
 use Rattle.nq_run.proofs.NameLemmas.{accepted}
 use Rattle.nq_run.proofs.TakingLemmas.{hindered}
 use Rattle.nq_run.proofs.session.Session.define.Goals as goal
@@ -42,6 +42,12 @@ accepted-requires-clause-free g c =
     let bank = c.args.self.bank in
     (defn_closes (history_of c.args.self) (tree c.args.given.form.now) bank (text_at bank c.args.name) c.as_slice.result.now c.args.formals.items (term_at bank c.args.body)
     (map (measure_at bank) c.args.measures.now) c.as_slice.ensures.value c.in_ok-answer.field-0 c.in_ok-answer.ensures c.in_default.is c.requires.spelled).free
+
+pub accepted-requires-clause-ready : goal.accepted-requires-clause-ready
+accepted-requires-clause-ready g c =
+    let bank = c.args.self.bank in
+    defn_ready (history_of c.args.self) (tree c.args.given.form.now) bank (text_at bank c.args.name) c.as_slice.result.now c.args.formals.items (term_at bank c.args.body)
+    (map (measure_at bank) c.args.measures.now) c.as_slice.ensures.value c.in_ok-answer.field-0 c.in_ok-answer.ensures c.in_default.is c.requires.spelled
 
 pub returns-clause-taken : goal.returns-clause-taken
 returns-clause-taken g c =

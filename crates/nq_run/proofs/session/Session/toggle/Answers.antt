@@ -8,6 +8,7 @@ use Rattle.nq_comment.specs.ReportViews.{answer_of}
 use Rattle.nq_events.specs.Events as model
 use Rattle.nq_run.specs.HistoryView.{history_of}
 use Rattle.nq_run.proofs.NameLemmas.{accepted, can_toggle, none_told, some_told}
+use Rattle.nq_run.proofs.ReadyLemmas.{toggled_ready}
 use Rattle.nq_run.proofs.TakingLemmas.{hindered}
 use Rattle.nq_run.proofs.session.Session.toggle.Goals as goal
 
@@ -28,6 +29,13 @@ accepted-requires-clause-free g c =
     let bank = c.args.self.bank in
     (can_toggle (history_of c.args.self) (text_at bank c.args.name) (text_at bank c.args.old) c.args.disabled c.requires.spelled
     (none_told c.in_ok-answer.field-0 _ (c.in_ok-answer.ensures c.args.disabled) c.in_default.is)).free
+
+pub accepted-requires-clause-ready : goal.accepted-requires-clause-ready
+accepted-requires-clause-ready g c =
+    let bank = c.args.self.bank in
+    toggled_ready (history_of c.args.self) (text_at bank c.args.name)
+    (can_toggle (history_of c.args.self) (text_at bank c.args.name) (text_at bank c.args.old) c.args.disabled c.requires.spelled
+    (none_told c.in_ok-answer.field-0 _ (c.in_ok-answer.ensures c.args.disabled) c.in_default.is)).free (text_at bank c.args.old) c.args.disabled
 
 pub returns-clause-taken : goal.returns-clause-taken
 returns-clause-taken g c =

@@ -1,29 +1,36 @@
-use Rattle.std.proofs.Common.{List, [], map, ap, sym, subst}
+use Rattle.std.proofs.Common.{List, map, ap, sym, subst}
 use Rattle.std.specs.Prelude.{Option}
 use Rattle.nq_sexp.specs.Tree.{tree}
 use Rattle.nq_logic.specs.Histories as logic
-use Rattle.nq_logic.specs.Ground.{symbols_of}
-use Rattle.nq_kernel.specs.EventTerms.{IsSpelledTerm}
 use Rattle.nq_bank.specs.Content.{Content, term_at, text_at}
 use Rattle.nq_history.specs.declared.entry.Class.{Class}
 use Rattle.nq_history.specs.declared.entry.Entry.{Entry}
 use Rattle.nq_history.specs.declared.entry.EntryKind.TheVariants as kind
-use Rattle.nq_history.specs.Events.{class_of}
+use Rattle.nq_history.specs.Events.{class_of, events_at}
 use Rattle.nq_kernel.specs.declared.verdict.Quick.{Quick}
+use Rattle.nq_kernel.specs.Ready.{IsReadyEvent}
 use Rattle.nq_run.specs.HistoryView.{history_of, SessionStands}
 use Rattle.nq_run.specs.Outcome.{AreBlocks}
 use Rattle.nq_run.specs.Sessions.{IsAdded, IsFoundBy, found_claims}
 use Rattle.nq_run.specs.declared.session.Session.{Session}
+use Rattle.nq_run.proofs.ReadyLemmas.{lemma_ready}
 use Rattle.nq_run.proofs.TakingLemmas.{lemma_proved, same_session}
 use Rattle.nq_run.proofs.session.Session.try_formula.Goals as goal
 
 pub added-requires-clause-stands : goal.added-requires-clause-stands
 added-requires-clause-stands g c = subst SessionStands (sym (same_session c.args.self c.in_ok-tried.tried.bank c.in_ok-tried.ensures.tried.same)) c.requires.stands
 
-pub added-requires-clause-term : goal.added-requires-clause-term
-added-requires-clause-term g c =
-    subst (λ (b : Content). IsSpelledTerm (term_at b c.args.lemma.goal)) (sym c.in_ok-tried.ensures.tried.same)
-    (record { symbols = symbols_of (history_of c.args.self); over = c.requires.spelled.claimable.over })
+-- what a fragment holds is derivable
+pub added-requires-clause-ready : goal.added-requires-clause-ready
+added-requires-clause-ready g c =
+    let old = c.args.self in
+    let h = history_of old in
+    let name = text_at old.bank c.args.lemma.name in
+    let t = term_at old.bank c.args.lemma.goal in
+    let told = c.in_ok-tried.ensures.tried in
+    let classes = map class_of c.new.result.items in
+    subst (λ (b : Content). IsReadyEvent (events_at b old.history) (logic.Lemma (text_at b c.args.lemma.name) classes (term_at b c.args.lemma.goal))) (sym told.same)
+    (lemma_ready h name c.requires.free classes t c.in-Some.way c.requires.stands.ready c.requires.spelled (subst (IsFoundBy h t) c.in-Some.is told.found))
 
 pub not_yet-requires-clause-stands : goal.not_yet-requires-clause-stands
 not_yet-requires-clause-stands g c = subst SessionStands (sym (same_session c.args.self c.in_ok-tried.tried.bank c.in_ok-tried.ensures.tried.same)) c.requires.stands

@@ -1,4 +1,4 @@
-use Rattle.std.proofs.Common.{ap, subst, sym, ◌∙◌}
+use Rattle.std.proofs.Common.{ap, subst, ◌∙◌}
 use Rattle.std.specs.Prelude.{Err}
 use Rattle.nq_sexp.specs.Tree.{tree}
 use Rattle.nq_bank.specs.Content.{text_at}

@@ -1,6 +1,5 @@
-use Rattle.std.proofs.Common.{ℕ, List, ap, arith, subst, sym, take, ◌∙◌}
+use Rattle.std.proofs.Common.{ℕ, ap, arith, subst, sym, take, ◌∙◌}
 use Rattle.nq_bank.specs.Content.{text_at}
-use Rattle.nq_history.specs.declared.entry.Entry.{Entry}
 use Rattle.nq_history.specs.Lookups.{IsUndo}
 use Rattle.nq_history.proofs.MarkingLemmas.{marked_can}
 use Rattle.nq_history.proofs.UndoLemmas.{undo_told}

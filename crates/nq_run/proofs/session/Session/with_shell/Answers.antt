@@ -8,10 +8,11 @@ use Rattle.nq_sexp.specs.Tree.{tree}
 use Rattle.nq_bank.specs.Content.{text_at}
 use Rattle.nq_bank.specs.Shells.{shell_at}
 use Rattle.nq_history.specs.Events.{EntryStands}
+use Rattle.nq_kernel.specs.Ready.{IsReadyEvent}
 use Rattle.nq_block.specs.Closings.{IsFree}
 use Rattle.nq_run.specs.HistoryView.{history_of}
 use Rattle.nq_run.specs.Sessions.{IsAdded}
-use Rattle.nq_run.proofs.ShellLemmas.{can_add, entry_stands, free_constructor, names_spelled, shell_added, shell_entry}
+use Rattle.nq_run.proofs.ShellLemmas.{can_add, entry_stands, free_constructor, names_spelled, shell_added, shell_entry, shell_ready}
 use Rattle.nq_run.proofs.session.Session.with_shell.Goals as goal
 
 pub block_of_shell-requires-clause-can : goal.block_of_shell-requires-clause-can
@@ -39,6 +40,12 @@ accepted-requires-clause-few g c =
     let bank = c.args.self.bank in
     subst (λ s. length (event_names (logic.AddShell (shell_at bank s))) ≤ 24) (sym c.in_ok-block.ensures.same)
     (c.events_are_spelled.ensures.shells (shell_at bank c.args.shell) c.requires.spelled)
+
+pub accepted-requires-clause-ready : goal.accepted-requires-clause-ready
+accepted-requires-clause-ready g c =
+    let bank = c.args.self.bank in
+    let h = history_of c.args.self in
+    subst (λ s. IsReadyEvent h (logic.AddShell (shell_at bank s))) (sym c.in_ok-block.ensures.same) (shell_ready h (shell_at bank c.args.shell) c.requires.lawful)
 
 pub returns-clause-taken : goal.returns-clause-taken
 returns-clause-taken g c =

@@ -1,0 +1,4 @@
+pub mod Mentions
+pub mod Calls
+pub mod Falls
+pub mod Laws

@@ -1,0 +1,9 @@
+pub mod UncountedLemmas
+pub mod PlaceLemmas
+pub mod StepLemmas
+pub mod NameLemmas
+pub mod CaseLemmas
+pub mod GroundLemmas
+pub mod HeldLemmas
+pub mod LoopLemmas
+pub mod LawLemmas

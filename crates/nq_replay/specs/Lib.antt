@@ -1,0 +1,5 @@
+pub mod Tables
+pub mod Uncounted
+pub mod Replaying
+pub mod Parts
+pub mod LawClauses

@@ -1,0 +1,4 @@
+pub mod HeadLemmas
+pub mod AnyLemmas
+pub mod PartLemmas
+pub mod DestructorLemmas
