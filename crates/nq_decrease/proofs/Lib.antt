@@ -1,0 +1,4 @@
+pub mod DepthLemmas
+pub mod LawLemmas
+pub mod LineLemmas
+pub mod InstanceLemmas

@@ -1,0 +1,3 @@
+pub mod RewritingLemmas
+pub mod ArgumentLemmas
+pub mod HeldLemmas
