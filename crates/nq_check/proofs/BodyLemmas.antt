@@ -1,12 +1,15 @@
--- The variables and the functions of a call are those of its arguments, and its own function.
-use Rattle.std.proofs.Common.{◌≡◌, ℕ, zero, suc, Bool, true, false, ◌||◌, List, [], ◌∷◌, refl, sym, ap, ◌∙◌}
-use Rattle.std.specs.Prelude.{◌&&◌, bytes_eq, codes}
+-- The variables of a call are those of its arguments.
+use Rattle.std.proofs.Common.{◌≡◌, ℕ, zero, suc, Bool, true, false, List, [], ◌∷◌, refl, sym, ap, ◌∙◌, inl, inr}
+use Rattle.std.specs.Prelude.{◌&&◌, nat_eq, Some}
+use Rattle.std.specs.HashMap.{Updates}
 use Rattle.nq_logic.specs.Terms.{Name, Term, Function, Applied, applied, call}
 use Rattle.nq_logic.specs.Words.{numeral}
-use Rattle.nq_logic.specs.Admissible.{has_variables, mentions}
+use Rattle.nq_logic.specs.Admissible.{has_variables}
 use Rattle.nq_bank.specs.declared.node.TermId.{TermId}
 use Rattle.nq_bank.specs.Parts.{parts_of}
-use Rattle.nq_bank.specs.Content.{Content, terms_at}
+use Rattle.nq_bank.specs.Content.{Content, term_at, terms_at}
+use Rattle.nq_clause.proofs.Lookups.{kept_or_stood}
+use Rattle.nq_check.specs.Variables.{Answers, HasAnswers}
 
 -- ---- variables
 
@@ -36,50 +39,15 @@ variables_of_numeral xs (suc n) = variables_of_numeral xs n
 pub variables_of_call : (xs : List Name) (bank : Content) (t : Term) (f : Name) (ids : List TermId) → t ≡ call f (parts_of t) → terms_at bank ids ≡ parts_of t → has_variables xs t ≡ have_variables xs (terms_at bank ids)
 variables_of_call xs bank t f ids is tells = ap (has_variables xs) is ∙ variables-applied xs (Function f) (parts_of t) ∙ ap (have_variables xs) (sym tells)
 
--- ---- functions
+-- ---- answers
 
--- whether the function stands in one of the terms
-abbrev pub mention : Name → List Term → Bool
-mention f [] = false
-mention f (t ∷ ts) = mentions f t || mention f ts
-
-or_false : (b : Bool) → (b || false) ≡ b
-or_false true = refl
-or_false false = refl
-
-or_assoc : (a b c : Bool) → ((a || b) || c) ≡ (a || (b || c))
-or_assoc true b c = refl
-or_assoc false b c = refl
-
-mentions-applied : (f : Name) (t : Term) (us : List Term) → mentions f (applied t us) ≡ (mentions f t || mention f us)
-mentions-applied f t [] = sym (or_false (mentions f t))
-mentions-applied f t (u ∷ us) = mentions-applied f (Applied t u) us ∙ or_assoc (mentions f t) (mentions f u) (mention f us)
-
-mentions-call : (f : Name) (t : Term) (g : Name) → t ≡ call g (parts_of t) → mentions f t ≡ (bytes_eq f g || mention f (parts_of t))
-mentions-call f t g is = ap (mentions f) is ∙ mentions-applied f (Function g) (parts_of t)
-
--- a call mentions its own function
-pub mentions_own : (f : Name) (t : Term) (g : Name) → t ≡ call g (parts_of t) → bytes_eq f g ≡ true → mentions f t ≡ true
-mentions_own f t g is same = mentions-call f t g is ∙ ap (λ b. b || mention f (parts_of t)) same
-
--- and of other functions those that its arguments mention
-pub mentions_of_call : (f : Name) (bank : Content) (t : Term) (g : Name) (ids : List TermId) → t ≡ call g (parts_of t) → terms_at bank ids ≡ parts_of t → bytes_eq f g ≡ false → mentions f t ≡ mention f (terms_at bank ids)
-mentions_of_call f bank t g ids is tells other = mentions-call f t g is ∙ ap (λ b. b || mention f (parts_of t)) other ∙ ap (mention f) (sym tells)
-
--- 0 is ZERO, and each other numeral is made of ADD1 and ZERO
-pub mentions_of_zero : (f : Name) (n : ℕ) → n ≡ 0 → mentions f (numeral n) ≡ bytes_eq f (codes "ZERO")
-unfolding numeral
-mentions_of_zero f n e = ap (λ n. mentions f (numeral n)) e
-
-or_twice : (a b : Bool) → (a || (a || b)) ≡ (a || b)
-or_twice true b = refl
-or_twice false b = refl
-
-mentions_of_next : (f : Name) (n : ℕ) → mentions f (numeral (suc n)) ≡ (bytes_eq f (codes "ADD1") || bytes_eq f (codes "ZERO"))
-unfolding numeral
-mentions_of_next f zero = refl
-mentions_of_next f (suc n) = ap (λ b. bytes_eq f (codes "ADD1") || b) (mentions_of_next f n) ∙ or_twice (bytes_eq f (codes "ADD1")) (bytes_eq f (codes "ZERO"))
-
-pub mentions_of_more : (f : Name) (n : ℕ) → (n ≡ 0 → ⊥) → mentions f (numeral n) ≡ (bytes_eq f (codes "ADD1") || bytes_eq f (codes "ZERO"))
-mentions_of_more f zero more = absurd (more refl)
-mentions_of_more f (suc n) more = mentions_of_next f n
+-- an answer that is kept is right
+pub answers_kept : (bank : Content) (xs : List Name) (old new : Answers) (t : TermId) (answer : Bool) → HasAnswers bank xs old → Updates nat_eq old new t.0 (Some answer) → answer ≡ has_variables xs (term_at bank t) → HasAnswers bank xs new
+answers_kept bank xs old new t answer h updates is =
+    record {
+      right = λ q b found.
+          elim (kept_or_stood old new t.0 q.0 answer b updates found) [
+            | inl here ↦ sym here.1 ∙ is ∙ ap (λ k. has_variables xs (term_at bank (record { 0 = k }))) here.0
+            | inr there ↦ h.right q b there
+          ];
+    }

@@ -26,7 +26,7 @@ use Rattle.nq_log.specs.TermLines.{with_term, call_line}
 use Rattle.nq_check.specs.declared.context.Context.{Context}
 use Rattle.nq_check.specs.Contexts.{state_of, IsWhole}
 use Rattle.nq_check.specs.Judging.{GoesOn}
-use Rattle.nq_check.proofs.ContextLemmas.{term_goes_on, events_grown}
+use Rattle.nq_check.proofs.ContextLemmas.{term_goes_on, state_grown}
 use Rattle.nq_check.proofs.NumberLemmas.{numbers_again}
 
 module _ (s : State) (f : List ℕ) (ns : List ℕ) where
@@ -70,11 +70,11 @@ call_goes_on old bank terms f ns ts t e known shallow whole h id pushed =
 -- ---- over the bank that has the function's name
 
 pub arity_is : (c : Context) (bank : Content) (function : Name) (f : Sym) (ids slice : List TermId) (b : Bool) → IsWhole c → Names c.bank bank f function → slice ≡ ids →
-    b ≡ has_symbol (text_at bank f) (length slice) (symbols_of (events_at bank c.history)) → has_symbol function (length (terms_at c.bank ids)) (block_symbols (state_of c)) ≡ b
+    b ≡ has_symbol (text_at bank f) (length slice) (block_symbols (state_of (record c { bank = bank }))) → has_symbol function (length (terms_at c.bank ids)) (block_symbols (state_of c)) ≡ b
 arity_is c bank function f ids slice b whole names same told =
-    ap (λ n. has_symbol function n (symbols_of (events_at c.bank c.history))) (length-map ids (term_at c.bank) ∙ ap length (sym same))
-    ∙ ap (λ (h : List Event). has_symbol function (length slice) (symbols_of h)) (sym (events_grown c bank names.grows whole))
-    ∙ ap (λ (n : Name). has_symbol n (length slice) (symbols_of (events_at bank c.history))) (sym names.reads)
+    ap (λ n. has_symbol function n (block_symbols (state_of c))) (length-map ids (term_at c.bank) ∙ ap length (sym same))
+    ∙ ap (λ (s : State). has_symbol function (length slice) (block_symbols s)) (state_grown c bank names.grows whole)
+    ∙ ap (λ (n : Name). has_symbol n (length slice) (block_symbols (state_of (record c { bank = bank })))) (sym names.reads)
     ∙ sym told
 
 pub call_is : (c : Context) (bank : Content) (function : Name) (f : Sym) (ids slice : List TermId) → Names c.bank bank f function → slice ≡ ids → All (Stands c.bank) ids →

@@ -145,7 +145,7 @@ pub induct_leads : (old mid : Context) (cases : Vec Waiting Global) (rule : Opti
     Leads (state_of old) (continued (rule_line (state_of old) rule >>= λ block. Some (record block { cases = [] }))) judged (record mid { cases = cases })
 induct_leads old mid cases rule told.NotAllowed led none = induct_denied (rule_line (state_of old) rule) led
 induct_leads old mid cases rule told.Continues led none = record {
-  whole = record { history = led.whole.history; terms = led.whole.terms; lines = led.whole.lines; parts = led.whole.parts };
+  whole = record { history = led.whole.history; introduced = led.whole.introduced; terms = led.whole.terms; lines = led.whole.lines; parts = led.whole.parts };
   step = induct_by (rule_line (state_of old) rule) (state_of mid).block led.step
       ∙ ap (λ (cs : List CaseLine). Some (Continues (record (state_of mid).block { cases = cs }))) (sym (ap (map case_of) none));
   history = led.history;
@@ -158,7 +158,7 @@ induct_leads old mid cases rule told.Ends led none = absurd (no_end (rule_line (
 pub case_added : (old : Context) (cases : Vec Waiting Global) (line : Waiting) → IsWhole old → cases.items ≡ old.cases.items ++ line ∷ [] →
     GoesOn (state_of old) (Some (Continues (with_case (state_of old).block (case_of line)))) (record old { cases = cases })
 case_added old cases line whole pushed = record {
-  whole = record { history = whole.history; terms = whole.terms; lines = whole.lines; parts = whole.parts };
+  whole = record { history = whole.history; introduced = whole.introduced; terms = whole.terms; lines = whole.lines; parts = whole.parts };
   step = ap (λ (cs : List CaseLine). Some (Continues (record (state_of old).block { cases = cs }))) (sym (ap (map case_of) pushed ∙ map-append case_of old.cases.items (line ∷ [])));
   history = refl;
 }

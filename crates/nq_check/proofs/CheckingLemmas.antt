@@ -10,7 +10,7 @@ use Rattle.nq_log.specs.Logs.{Reason, Ending, Right, Wrong, Reading, reading_by,
 use Rattle.nq_log.specs.Laws.{ClaimsHold}
 use Rattle.nq_log.specs.Growing.{with_claims}
 use Rattle.nq_log.specs.Streams.{Place, AtStart, Between, AtEnd, reading_after, reading_at_end}
-use Rattle.nq_log.specs.Stage.{built_step}
+use Rattle.nq_log.specs.Logs.{step}
 use Rattle.nq_log.proofs.Streams.{text_ends_law}
 use Rattle.nq_check.specs.declared.checker.Checker.{Checker}
 use Rattle.nq_check.specs.declared.checker.Spot.{Spot}
@@ -29,12 +29,12 @@ use Rattle.nq_check.proofs.PassingLemmas.{take_past, no_part, Passed-start, Pass
 
 -- a reader at the start reads the text
 module _ (start : Checker) (first : place_of start ≡ AtStart) where
-  pub whole : (text : List ℕ) → reading_by built_step text ≡ reading_from start text
-  whole text = ap (λ (p : Place). reading_after built_step p text) (sym first)
+  pub whole : (text : List ℕ) → reading_by step text ≡ reading_from start text
+  whole text = ap (λ (p : Place). reading_after step p text) (sym first)
 
   -- the claims of any text that is read hold
   abbrev Sound : Type 0
-  Sound = (text : List ℕ) → ClaimsHold [] (reading_by built_step text).claims
+  Sound = (text : List ℕ) → ClaimsHold [] (reading_by step text).claims
 
   -- ---- the bytes taken are a first part of the text
 
@@ -54,13 +54,13 @@ module _ (start : Checker) (first : place_of start ≡ AtStart) where
       Stopped start c taken why held written → IsJudged left held written (checked.Refused c.line why)
   stopped_judged c taken why left now held written sound consumed within s =
       let reading = with_claims s.claims (wrong c.line (reason_of why)) in
-      let reads : (more : List ℕ) → reading_by built_step (taken ++ more) ≡ reading = λ more. whole (taken ++ more) ∙ s.reads more in
+      let reads : (more : List ℕ) → reading_by step (taken ++ more) ≡ reading = λ more. whole (taken ++ more) ∙ s.reads more in
       let same : s.claims ++ [] ≡ s.claims = append-nil s.claims in
       record {
         reading = reading;
-        read = of_text left now taken (λ text. reading_by built_step text ≡ reading) consumed reads;
-        within = of_text left now taken (λ text. reading_by built_step (take log_limit text) ≡ reading) consumed
-            (λ rest. ap (reading_by built_step) (take_front taken rest within) ∙ reads (take (log_limit - length taken) rest));
+        read = of_text left now taken (λ text. reading_by step text ≡ reading) consumed reads;
+        within = of_text left now taken (λ text. reading_by step (take log_limit text) ≡ reading) consumed
+            (λ rest. ap (reading_by step) (take_front taken rest within) ∙ reads (take (log_limit - length taken) rest));
         answers = (refl, refl);
         text = subst (λ (cs : List Claim). Appends held written (claims_text cs)) (sym same) s.text;
         sound = subst (λ (r : Reading). ClaimsHold [] r.claims) (reads []) (sound (taken ++ []));
@@ -72,8 +72,8 @@ module _ (start : Checker) (first : place_of start ≡ AtStart) where
     here : Reading
     here = with_claims p.passed.claims (reading_at_end (place_of c) hand)
 
-    pub reads_so : reading_by built_step p.taken ≡ with_claims p.passed.claims (reading_at_end (place_of c) hand)
-    reads_so = whole p.taken ∙ Passed-reading start c p.taken hand held written p.passed ∙ ap (with_claims p.passed.claims) (text_ends_law built_step (place_of c) hand p.waits.free)
+    pub reads_so : reading_by step p.taken ≡ with_claims p.passed.claims (reading_at_end (place_of c) hand)
+    reads_so = whole p.taken ∙ Passed-reading start c p.taken hand held written p.passed ∙ ap (with_claims p.passed.claims) (text_ends_law step (place_of c) hand p.waits.free)
 
     no_claims : (place : Place) (hand : List ℕ) → (reading_at_end place hand).claims ≡ []
     no_claims AtStart hand = refl
@@ -99,7 +99,7 @@ module _ (start : Checker) (first : place_of start ≡ AtStart) where
     sound_so sound = subst (λ (r : Reading). ClaimsHold [] r.claims) reads_so (sound p.taken)
 
     -- the source failed
-    pub unread : (later : Option (List ℕ)) → Sound → Keeps now later → IsUnread built_step left held written
+    pub unread : (later : Option (List ℕ)) → Sound → Keeps now later → IsUnread step left held written
     unread later sound kept = record {
       reading = with_claims p.passed.claims (reading_at_end (place_of c) hand);
       read = of_text left later p.taken _ (Consumes-kept left now later p.taken p.consumed kept) (λ rest. (p.taken, rest, refl, reads_so));
@@ -123,7 +123,7 @@ module _ (start : Checker) (first : place_of start ≡ AtStart) where
         record {
           reading = with_claims p.passed.claims (reading_at_end (place_of c) hand);
           read = all_taken left later p.taken _ gone end reads_so;
-          within = all_taken left later p.taken _ gone end (ap (reading_by built_step) (take_all log_limit p.taken within) ∙ reads_so);
+          within = all_taken left later p.taken _ gone end (ap (reading_by step) (take_all log_limit p.taken within) ∙ reads_so);
           answers = subst (λ n. Answers n (reading_at_end (place_of c) hand).ending answer) (sym count) (ends.answers hand p.waits);
           text = text_so;
           sound = sound_so sound;
@@ -139,7 +139,7 @@ module _ (start : Checker) (first : place_of start ≡ AtStart) where
         let h : length (taken ++ piece) ≡ length taken + length piece = length-append taken piece in
         omega (arith, e, some, f, g, h)
 
-    pub too_long : (later : Option (List ℕ)) (piece : List ℕ) → Sound → Consumes now later piece → 0 < length piece → count ≡ log_limit → IsTooLong built_step left held written
+    pub too_long : (later : Option (List ℕ)) (piece : List ℕ) → Sound → Consumes now later piece → 0 < length piece → count ≡ log_limit → IsTooLong step left held written
     too_long later piece sound more some full =
         let gone : Consumes left later (p.taken ++ piece) = Consumes-trans left now later p.taken piece p.consumed more in
         let long : length p.taken ≡ log_limit = sym p.count_is ∙ full in
@@ -147,8 +147,8 @@ module _ (start : Checker) (first : place_of start ≡ AtStart) where
           reading = with_claims p.passed.claims (reading_at_end (place_of c) hand);
           long = more_than left later p.taken piece gone long some;
           read = of_text left later (p.taken ++ piece) _ gone
-              (λ rest. ap (λ (t : List ℕ). reading_by built_step (take log_limit t)) (append_assoc p.taken piece rest)
-              ∙ ap (reading_by built_step) (exactly (piece ++ rest) long) ∙ reads_so);
+              (λ rest. ap (λ (t : List ℕ). reading_by step (take log_limit t)) (append_assoc p.taken piece rest)
+              ∙ ap (reading_by step) (exactly (piece ++ rest) long) ∙ reads_so);
           unfinished = unfinished_so;
           text = text_so;
           sound = sound_so sound;
@@ -160,13 +160,13 @@ module _ (start : Checker) (first : place_of start ≡ AtStart) where
             ap (λ n. take n (p.taken ++ rest)) e ∙ take_past p.taken rest 0 ∙ append-nil p.taken
 
     -- writing failed, or memory was wanting, in the lines of a piece
-    pub cut_off : (later : Option (List ℕ)) (piece : List ℕ) (after : Option (List ℕ)) → Sound → Consumes now later piece → Interrupted c (hand ++ piece) written after → IsCutOff built_step left held after
+    pub cut_off : (later : Option (List ℕ)) (piece : List ℕ) (after : Option (List ℕ)) → Sound → Consumes now later piece → Interrupted c (hand ++ piece) written after → IsCutOff step left held after
     cut_off later piece after sound more i =
         let all = Passed-more start c p.taken hand piece held written p.passed in
         let gone : Consumes left later (p.taken ++ piece) = Consumes-trans left now later p.taken piece p.consumed more in
         let part = Interrupted-after start c (p.taken ++ piece) (hand ++ piece) held written after all i in
-        let cut : IsCutInClaims built_step left held after = record {
-          reading = reading_by built_step (p.taken ++ piece);
+        let cut : IsCutInClaims step left held after = record {
+          reading = reading_by step (p.taken ++ piece);
           read = of_text left later (p.taken ++ piece) _ gone (λ rest. (p.taken ++ piece, rest, refl, refl));
           text = subst (λ (r : Reading). AppendsPart held after (claims_text r.claims)) (sym (whole (p.taken ++ piece))) part.text;
           sound = sound (p.taken ++ piece);
@@ -212,7 +212,7 @@ verdict_is n (Wrong line reason) (checked.Accepted k) a = absurd a
 verdict_is n (Wrong line reason) (checked.Refused l why) a =
     ap (λ m. verdict_text n (Wrong m reason)) (sym a.0) ∙ ap (λ (r : Reason). verdict_text n (Wrong l r)) (sym a.1)
 
-pub judged_checked : (left held now after : Option (List ℕ)) (answer : Checked) → IsJudged left held now answer → Appends now after (answer_text answer) → IsChecked built_step left held after answer
+pub judged_checked : (left held now after : Option (List ℕ)) (answer : Checked) → IsJudged left held now answer → Appends now after (answer_text answer) → IsChecked step left held after answer
 judged_checked left held now after answer j wrote = record {
   reading = j.reading;
   read = j.read;
@@ -223,11 +223,11 @@ judged_checked left held now after answer j wrote = record {
   sound = j.sound;
 }
 
-pub judged_cut : (left held now after : Option (List ℕ)) (answer : Checked) → IsJudged left held now answer → AppendsPart now after (answer_text answer) → IsCutOff built_step left held after
+pub judged_cut : (left held now after : Option (List ℕ)) (answer : Checked) → IsJudged left held now answer → AppendsPart now after (answer_text answer) → IsCutOff step left held after
 judged_cut left held now after answer j wrote =
     let verdict = verdict_text (length j.reading.claims) j.reading.ending in
     let part : AppendsPart now after verdict = subst (AppendsPart now after) (sym (verdict_is (length j.reading.claims) j.reading.ending answer j.answers)) wrote in
-    let cut : IsCutInVerdict built_step left held after = record {
+    let cut : IsCutInVerdict step left held after = record {
       reading = j.reading;
       read = j.read;
       within = j.within;
@@ -238,33 +238,33 @@ judged_cut left held now after answer j wrote =
     inr cut
 
 -- what is cut off broke neither in the source nor at the limit
-pub broken : {T : Type 0} (left held after : Option (List ℕ)) (r : Result T CheckFault) (e : CheckFault) → r ≡ Err e → (r ≡ Err fault.Read → ⊥) → (r ≡ Err fault.TooLong → ⊥) → IsCutOff built_step left held after → Breaks left held after e
+pub broken : {T : Type 0} (left held after : Option (List ℕ)) (r : Result T CheckFault) (e : CheckFault) → r ≡ Err e → (r ≡ Err fault.Read → ⊥) → (r ≡ Err fault.TooLong → ⊥) → IsCutOff step left held after → Breaks left held after e
 broken left held after r fault.Read is no_read no_length cut = absurd (no_read is)
 broken left held after r fault.Write is no_read no_length cut = cut
 broken left held after r fault.TooLong is no_read no_length cut = absurd (no_length is)
 broken left held after r fault.Memory is no_read no_length cut = cut
 
 -- nothing was read, and nothing written
-pub nothing_yet : (left held : Option (List ℕ)) → ((text : List ℕ) → ClaimsHold [] (reading_by built_step text).claims) → IsCutOff built_step left held held
+pub nothing_yet : (left held : Option (List ℕ)) → ((text : List ℕ) → ClaimsHold [] (reading_by step text).claims) → IsCutOff step left held held
 nothing_yet left held sound =
-    let cut : IsCutInClaims built_step left held held = record {
-      reading = reading_by built_step [];
+    let cut : IsCutInClaims step left held held = record {
+      reading = reading_by step [];
       read = any left;
-      text = no_part held (claims_text (reading_by built_step []).claims);
+      text = no_part held (claims_text (reading_by step []).claims);
       sound = sound [];
     } in
     inl cut
   where
-    any : (left : Option (List ℕ)) → IfSome left (λ text. (taken : List ℕ) × (more : List ℕ) × (text ≡ taken ++ more) × (reading_by built_step taken ≡ reading_by built_step []))
+    any : (left : Option (List ℕ)) → IfSome left (λ text. (taken : List ℕ) × (more : List ℕ) × (text ≡ taken ++ more) × (reading_by step taken ≡ reading_by step []))
     any None = tt
     any (Some text) = ([], text, refl, refl)
 
 -- the verdict was written, or a first part of it
 pub verdict_checks : (left held now after : Option (List ℕ)) (answer : Checked) (r : Result Checked CheckFault) → IsJudged left held now answer →
     IfOk r (λ given. (given ≡ answer) × Appends now after (answer_text answer)) → OnErr r (AppendsPart now after (answer_text answer)) →
-    (r ≡ Err fault.Read → ⊥) → (r ≡ Err fault.TooLong → ⊥) → Checks built_step left held after r
+    (r ≡ Err fault.Read → ⊥) → (r ≡ Err fault.TooLong → ⊥) → Checks step left held after r
 verdict_checks left held now after answer (Ok given) j ok err no_read no_length =
-    subst (λ (a : Checked). IsChecked built_step left held after a) (sym ok.0) (judged_checked left held now after answer j ok.1)
+    subst (λ (a : Checked). IsChecked step left held after a) (sym ok.0) (judged_checked left held now after answer j ok.1)
 verdict_checks left held now after answer (Err fault.Read) j ok err no_read no_length = absurd (no_read refl)
 verdict_checks left held now after answer (Err fault.Write) j ok err no_read no_length = judged_cut left held now after answer j err
 verdict_checks left held now after answer (Err fault.TooLong) j ok err no_read no_length = absurd (no_length refl)

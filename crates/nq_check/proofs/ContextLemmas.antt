@@ -7,12 +7,12 @@ use Rattle.std.proofs.lemmas.Option.{slice_get-map}
 use Rattle.std.proofs.lemmas.List.{map-append}
 use Rattle.nq_logtext.specs.Reading.{◌>>=◌}
 use Rattle.nq_logtext.specs.Fields.{name}
-use Rattle.nq_logic.specs.Terms.{Term, Variable}
+use Rattle.nq_logic.specs.Terms.{Name, Term, Variable}
 use Rattle.nq_logic.specs.Histories.{Part as PartOfTexts}
 use Rattle.nq_logic.specs.Names.{has_name, constant_names}
 use Rattle.nq_bank.specs.declared.node.TermId.{TermId}
 use Rattle.nq_bank.specs.declared.shell.Part.{Part}
-use Rattle.nq_bank.specs.Content.{Content, Stands, Grows, IsIdOf, term_at, terms_at}
+use Rattle.nq_bank.specs.Content.{Content, IsNamed, Stands, Grows, IsIdOf, term_at, terms_at}
 use Rattle.nq_bank.specs.Shells.{part_at, parts_at, PartStands}
 use Rattle.nq_bank.proofs.NodesLemmas.{All-head, All-tail}
 use Rattle.nq_bank.proofs.Growth.{terms_at-grown, text_at-grown, IsNamed-grown}
@@ -33,8 +33,10 @@ use Rattle.nq_log.specs.Logs.{continued}
 use Rattle.nq_log.specs.States as logs
 use Rattle.nq_log.specs.TermLines.{with_term, variable_line}
 use Rattle.nq_check.specs.declared.waiting.CaseLine.{CaseLine}
+use Rattle.nq_check.specs.declared.waiting.Introduced.{Introduced}
+use Rattle.nq_check.specs.declared.waiting.MeasureLine.{MeasureLine}
 use Rattle.nq_check.specs.declared.context.Context.{Context}
-use Rattle.nq_check.specs.Contexts.{clause_of, case_of, block_of, state_of, HasNewNames, IsKept, IsWhole}
+use Rattle.nq_check.specs.Contexts.{clause_of, case_of, function_of, measure_of, block_of, state_of, HasNewNames, IsKept, IsWhole}
 use Rattle.nq_check.specs.Judging.{GoesOn}
 
 -- ---- numbers
@@ -58,9 +60,9 @@ by_line bank None = refl
 by_line bank (Some line) = refl
 
 -- the clause of a line in the block is that in the log
-pub clause_same : (bank : Content) (ids : List TermId) (log : List Line) (parts : List Part) (cases : List CaseLine) (n : ℕ) → logs.clause_at (block_of bank ids log parts cases) n ≡ kernel.clause_at bank log n
-clause_same bank ids log parts cases zero = refl
-clause_same bank ids log parts cases (suc k) = ap (λ (o : Option (Option Clause)). o >>= λ c. c) (slice_get-map (clause_of bank) log k) ∙ by_line bank (slice_get log k)
+pub clause_same : (bank : Content) (f : Option Introduced) (ids : List TermId) (log : List Line) (parts : List Part) (cases : List CaseLine) (m : Option MeasureLine) (n : ℕ) → logs.clause_at (block_of bank f ids log parts cases m) n ≡ kernel.clause_at bank log n
+clause_same bank f ids log parts cases m zero = refl
+clause_same bank f ids log parts cases m (suc k) = ap (λ (o : Option (Option Clause)). o >>= λ c. c) (slice_get-map (clause_of bank) log k) ∙ by_line bank (slice_get log k)
 
 -- ---- a bank that grew
 
@@ -106,15 +108,25 @@ module _ (old new : Content) (h : Grows old new) where
     names = subst HasNewNames (sym (events_at-grown old new h history kept.stands.entries)) kept.names;
   }
 
-pub block_is : (ts us : List Term) (ls ms : List (Option Clause)) (ps qs : List PartOfTexts) (cases : List logs.CaseLine) → ts ≡ us → ls ≡ ms → ps ≡ qs →
-    ◌≡◌ {A = Block} (record { introduced = None; terms = ts; lines = ls; parts = ps; cases = cases; measure = None }) (record { introduced = None; terms = us; lines = ms; parts = qs; cases = cases; measure = None })
-block_is ts us ls ms ps qs cases e f g = λ i. record { introduced = None; terms = e i; lines = f i; parts = g i; cases = cases; measure = None }
+-- the function that is introduced means the same
+pub introduced_grown : (old new : Content) (f : Option Introduced) → Grows old new → IfSome f (λ f. IsNamed old f.function) → option_map (function_of old) f ≡ option_map (function_of new) f
+introduced_grown old new None h named = refl
+introduced_grown old new (Some f) h named = ap (λ (n : Name). Some (n, f.arity)) (sym (text_at-grown old new f.function h named))
+
+pub introduced_named : (old new : Content) (f : Option Introduced) → Grows old new → IfSome f (λ f. IsNamed old f.function) → IfSome f (λ f. IsNamed new f.function)
+introduced_named old new None h named = tt
+introduced_named old new (Some f) h named = IsNamed-grown old new f.function h named
+
+pub block_is : (f g : Option (Name × ℕ)) (ts us : List Term) (ls ms : List (Option Clause)) (ps qs : List PartOfTexts) (cases : List logs.CaseLine) (m : Option logs.MeasureLine) → f ≡ g → ts ≡ us → ls ≡ ms → ps ≡ qs →
+    ◌≡◌ {A = Block} (record { introduced = f; terms = ts; lines = ls; parts = ps; cases = cases; measure = m }) (record { introduced = g; terms = us; lines = ms; parts = qs; cases = cases; measure = m })
+block_is f g ts us ls ms ps qs cases m same e h k = λ i. record { introduced = same i; terms = e i; lines = h i; parts = k i; cases = cases; measure = m }
 
 -- a context in a bank that grew
 module _ (c : Context) (bank : Content) (h : Grows c.bank bank) (whole : IsWhole c) where
   pub whole_grown : IsWhole (record c { bank = bank })
   whole_grown = record {
     history = kept_grown c.bank bank h c.history whole.history;
+    introduced = introduced_named c.bank bank c.introduced h whole.introduced;
     terms = stand_grown c.bank bank c.terms.items h whole.terms;
     lines = over_grown c.bank bank c.log h whole.lines;
     parts = parts_stand c.bank bank h c.parts.items whole.parts;
@@ -125,8 +137,8 @@ module _ (c : Context) (bank : Content) (h : Grows c.bank bank) (whole : IsWhole
 
   pub state_grown : state_of c ≡ state_of (record c { bank = bank })
   state_grown =
-      let block = block_is (terms_at c.bank c.terms.items) (terms_at bank c.terms.items) (map (clause_of c.bank) c.log) (map (clause_of bank) c.log)
-      (parts_at c.bank c.parts.items) (parts_at bank c.parts.items) (map case_of c.cases.items)
+      let block = block_is (option_map (function_of c.bank) c.introduced) (option_map (function_of bank) c.introduced) (terms_at c.bank c.terms.items) (terms_at bank c.terms.items) (map (clause_of c.bank) c.log) (map (clause_of bank) c.log)
+      (parts_at c.bank c.parts.items) (parts_at bank c.parts.items) (map case_of c.cases.items) (option_map measure_of c.measure) (introduced_grown c.bank bank c.introduced h whole.introduced)
       (sym (terms_at-grown c.bank bank c.terms.items h whole.terms)) (log_grown c.bank bank c.log h whole.lines) (parts_grown c.bank bank h c.parts.items whole.parts) in
       λ i. record { history = sym events_grown i; block = block i }
 
@@ -139,9 +151,9 @@ terms_pushed old new ids t term h stand id =
 pub term_goes_on : (old : Context) (bank : Content) (terms : Vec TermId Global) (t : TermId) (term : Term) → IsWhole old → Grows old.bank bank → IsIdOf bank t term → terms.items ≡ old.terms.items ++ t ∷ [] →
     GoesOn (state_of old) (Some (Continues (with_term (state_of old).block term))) (record old { bank = bank; terms = terms })
 term_goes_on old bank terms t term whole h id pushed = record {
-  whole = let w = whole_grown old bank h whole in record { history = w.history; terms = subst (All (Stands bank)) (sym pushed) (All-push (Stands bank) old.terms.items t w.terms id.stands); lines = w.lines; parts = w.parts };
+  whole = let w = whole_grown old bank h whole in record { history = w.history; introduced = w.introduced; terms = subst (All (Stands bank)) (sym pushed) (All-push (Stands bank) old.terms.items t w.terms id.stands); lines = w.lines; parts = w.parts };
   step = ap (λ (b : Block). Some (Continues b))
-      (block_is _ _ _ _ _ _ (map case_of old.cases.items) (terms_pushed old.bank bank old.terms.items t term h whole.terms id ∙ ap (terms_at bank) (sym pushed))
+      (block_is _ _ _ _ _ _ _ _ (map case_of old.cases.items) (option_map measure_of old.measure) (introduced_grown old.bank bank old.introduced h whole.introduced) (terms_pushed old.bank bank old.terms.items t term h whole.terms id ∙ ap (terms_at bank) (sym pushed))
       (log_grown old.bank bank old.log h whole.lines) (parts_grown old.bank bank h old.parts.items whole.parts));
   history = events_grown old bank h whole;
 }
@@ -158,14 +170,15 @@ pub all_none : {X : Type 0} (P : X → Type 0) → All P []
 all_none P k d below = absurd (omega arith)
 
 -- the history is kept, and the block has no line
-pub whole_begun : (c : Context) → IsKept c.bank c.history → c.terms.items ≡ [] → c.log ≡ [] → c.parts.items ≡ [] → IsWhole c
-whole_begun c kept terms log parts = record {
+pub whole_begun : (c : Context) → IsKept c.bank c.history → c.introduced ≡ None → c.terms.items ≡ [] → c.log ≡ [] → c.parts.items ≡ [] → IsWhole c
+whole_begun c kept introduced terms log parts = record {
   history = kept;
+  introduced = subst (λ (f : Option Introduced). IfSome f (λ f. IsNamed c.bank f.function)) (sym introduced) tt;
   terms = subst (All (Stands c.bank)) (sym terms) (all_none (Stands c.bank));
   lines = subst (IsOver c.bank) (sym log) (record { stand = all_none (λ line. All (Stands c.bank) line.clause.items) });
   parts = subst (All (PartStands c.bank)) (sym parts) (all_none (PartStands c.bank));
 }
 
-pub state_begun : (c : Context) → c.terms.items ≡ [] → c.log ≡ [] → c.parts.items ≡ [] → c.cases.items ≡ [] → state_of c ≡ start_of (events_at c.bank c.history)
-state_begun c terms log parts cases =
-    λ i. record { history = events_at c.bank c.history; block = block_of c.bank (terms i) (log i) (parts i) (cases i) }
+pub state_begun : (c : Context) → c.introduced ≡ None → c.terms.items ≡ [] → c.log ≡ [] → c.parts.items ≡ [] → c.cases.items ≡ [] → c.measure ≡ None → state_of c ≡ start_of (events_at c.bank c.history)
+state_begun c introduced terms log parts cases measure =
+    λ i. record { history = events_at c.bank c.history; block = block_of c.bank (introduced i) (terms i) (log i) (parts i) (cases i) (measure i) }

@@ -49,7 +49,7 @@ at_line bank log new zero stands count gone others = absurd cc
 at_line bank log new (suc k) stands count gone others = dropped_is bank log new k count gone (λ j other. others (suc j) (λ e. other (omega (arith, e))))
 
 line_found : (c : Context) (n : ℕ) → clause_at (state_of c).block n ≡ option_map (terms_at c.bank) (ids_at c.log n)
-line_found c n = clause_same c.bank c.terms.items c.log c.parts.items c.cases.items n
+line_found c n = clause_same c.bank c.introduced c.terms.items c.log c.parts.items c.cases.items c.measure n
 
 pub drop_denied : (c : Context) (n : ℕ) → is_some (ids_at c.log n) ≡ false → continued (drop_line (state_of c) (number n ∷ [])) ≡ None
 drop_denied c n e = ap (λ (o : Option Clause). continued (o >>= λ x. Some (record (state_of c).block { lines = dropped (state_of c).block.lines (pred n) }))) (line_found c n) ∙ by_ids (ids_at c.log n) e
@@ -61,7 +61,7 @@ drop_denied c n e = ap (λ (o : Option Clause). continued (o >>= λ x. Some (rec
 pub drop_goes_on : (old : Context) (log : List Line) (n : ℕ) → IsWhole old → is_some (ids_at old.log n) ≡ true → length log ≡ length old.log → ids_at log n ≡ None → ((m : ℕ) → (m ≡ n → ⊥) → ids_at log m ≡ ids_at old.log m) →
     IsOver old.bank log → GoesOn (state_of old) (continued (drop_line (state_of old) (number n ∷ []))) (record old { log = log })
 drop_goes_on old log n whole stands count gone others over = record {
-  whole = record { history = whole.history; terms = whole.terms; lines = over; parts = whole.parts };
+  whole = record { history = whole.history; introduced = whole.introduced; terms = whole.terms; lines = over; parts = whole.parts };
   step =
       ap (λ (o : Option Clause). continued (o >>= λ x. Some (record (state_of old).block { lines = dropped (state_of old).block.lines (pred n) }))) (line_found old n)
       ∙ by_ids (ids_at old.log n) stands

@@ -14,3 +14,6 @@ mod PassingLemmas
 mod CheckingLemmas
 mod BodyLemmas
 mod DefinitionLemmas
+mod RuleTermLemmas
+mod MeasureLemmas
+mod FunctionLemmas

@@ -23,7 +23,7 @@ use Rattle.nq_log.specs.Logs.{Malformed, NotAllowed, Reading, wrong, is_header}
 use Rattle.nq_log.specs.Blocks.{HasNoLineFeed}
 use Rattle.nq_log.specs.Growing.{with_claims}
 use Rattle.nq_log.specs.Streams.{AtStart, Between, AtEnd, next_line, reading_after, Move, Moves, Fails, move_at, move_by, reading_moved}
-use Rattle.nq_log.specs.Stage.{built_step}
+use Rattle.nq_log.specs.Logs.{step}
 use Rattle.nq_log.proofs.Streams.{line_moves_law, nothing_follows_law, line_is_read_law, no_line_is_read_law}
 use Rattle.nq_check.specs.declared.checker.Checker.{Checker}
 use Rattle.nq_check.specs.declared.checker.Spot.{Spot}
@@ -120,19 +120,19 @@ Interrupted-none a hand u = record { text = no_part u (claims_text (reading_from
 
 module _ (old : Checker) (bytes : List ℕ) (free : HasNoLineFeed bytes) where
   the_move : Move
-  the_move = move_at built_step (place_of old) (line_of bytes)
+  the_move = move_at step (place_of old) (line_of bytes)
 
-  moved : (m : Move) (rest : List ℕ) → move_at built_step (place_of old) (line_of bytes) ≡ m → reading_from old (bytes ++ (10 ∷ rest)) ≡ reading_moved built_step (place_of old) m rest
-  moved m rest e = line_moves_law built_step (place_of old) bytes rest free ∙ ap (λ (m : Move). reading_moved built_step (place_of old) m rest) e
+  moved : (m : Move) (rest : List ℕ) → move_at step (place_of old) (line_of bytes) ≡ m → reading_from old (bytes ++ (10 ∷ rest)) ≡ reading_moved step (place_of old) m rest
+  moved m rest e = line_moves_law step (place_of old) bytes rest free ∙ ap (λ (m : Move). reading_moved step (place_of old) m rest) e
 
-  along : (m : Move) (rest more : List ℕ) → move_at built_step (place_of old) (line_of bytes) ≡ m → reading_from old ((bytes ++ (10 ∷ rest)) ++ more) ≡ reading_moved built_step (place_of old) m (rest ++ more)
+  along : (m : Move) (rest more : List ℕ) → move_at step (place_of old) (line_of bytes) ≡ m → reading_from old ((bytes ++ (10 ∷ rest)) ++ more) ≡ reading_moved step (place_of old) m (rest ++ more)
   along m rest more e = ap (reading_from old) (append_assoc bytes (10 ∷ rest) more) ∙ moved m (rest ++ more) e
 
   longer : (rest : List ℕ) → length rest + 1 ≤ length (bytes ++ (10 ∷ rest))
   longer rest = let e : length (bytes ++ (10 ∷ rest)) ≡ length bytes + length (10 ∷ rest) = length-append bytes (10 ∷ rest) in
       let f : length (10 ∷ rest) ≡ length rest + 1 = omega arith in omega (arith, e, f)
 
-  pub line_moves : (new : Checker) (rest : List ℕ) (u : Option (List ℕ)) → IsMoved (move_at built_step (place_of old) (line_of bytes)) old new → Passed old new (bytes ++ (10 ∷ rest)) rest u u
+  pub line_moves : (new : Checker) (rest : List ℕ) (u : Option (List ℕ)) → IsMoved (move_at step (place_of old) (line_of bytes)) old new → Passed old new (bytes ++ (10 ∷ rest)) rest u u
   line_moves new rest u m = record {
     claims = [];
     reads = λ more. along _ rest more m.is;
@@ -142,7 +142,7 @@ module _ (old : Checker) (bytes : List ℕ) (free : HasNoLineFeed bytes) where
     lines = let e = m.step.line in let f = longer rest in omega (arith, e, f);
   }
 
-  pub line_claims : (new : Checker) (rest text : List ℕ) (u v : Option (List ℕ)) → IsReady old → IsEstablished (move_at built_step (place_of old) (line_of bytes)) text old new → Appends u v text →
+  pub line_claims : (new : Checker) (rest text : List ℕ) (u v : Option (List ℕ)) → IsReady old → IsEstablished (move_at step (place_of old) (line_of bytes)) text old new → Appends u v text →
       Passed old (record new { claims = new.claims + 1 }) (bytes ++ (10 ∷ rest)) rest u v
   line_claims new rest text u v ready m wrote = record {
     claims = m.claim ∷ [];
@@ -153,14 +153,14 @@ module _ (old : Checker) (bytes : List ℕ) (free : HasNoLineFeed bytes) where
     lines = let e = m.step.line in let f = longer rest in omega (arith, e, f);
   }
 
-  pub line_cut : (new : Checker) (rest text : List ℕ) (u v : Option (List ℕ)) → IsEstablished (move_at built_step (place_of old) (line_of bytes)) text old new → AppendsPart u v text →
+  pub line_cut : (new : Checker) (rest text : List ℕ) (u v : Option (List ℕ)) → IsEstablished (move_at step (place_of old) (line_of bytes)) text old new → AppendsPart u v text →
       Interrupted old (bytes ++ (10 ∷ rest)) u v
   line_cut new rest text u v m wrote =
       let all : claims_text (reading_from old (bytes ++ (10 ∷ rest))).claims ≡ text ++ claims_text (reading_from new rest).claims =
       ap (λ (r : Reading). claims_text r.claims) (moved _ rest m.is) ∙ ap (λ (t : List ℕ). t ++ claims_text (reading_from new rest).claims) (sym m.text_is) in
       record { text = subst (AppendsPart u v) (sym all) (part_of_longer u v text (claims_text (reading_from new rest).claims) wrote) }
 
-  pub line_stops : (new : Checker) (rest : List ℕ) (why : Refusal) (u : Option (List ℕ)) → IsReady old → IsWrong (move_at built_step (place_of old) (line_of bytes)) why old new → Stopped old new (bytes ++ (10 ∷ rest)) why u u
+  pub line_stops : (new : Checker) (rest : List ℕ) (why : Refusal) (u : Option (List ℕ)) → IsReady old → IsWrong (move_at step (place_of old) (line_of bytes)) why old new → Stopped old new (bytes ++ (10 ∷ rest)) why u u
   line_stops new rest why u ready m = record {
     claims = [];
     reads = λ more. along _ rest more m.is ∙ ap (λ n. wrong n (reason_of why)) (sym (m.line ∙ ready.line));
@@ -169,14 +169,14 @@ module _ (old : Checker) (bytes : List ℕ) (free : HasNoLineFeed bytes) where
 
 -- ---- bytes after the last line
 
-past_last : (c : Checker) (hand more : List ℕ) → (hand ≡ [] → ⊥) → reading_after built_step (AtEnd c.line) (hand ++ more) ≡ wrong c.line Malformed
+past_last : (c : Checker) (hand more : List ℕ) → (hand ≡ [] → ⊥) → reading_after step (AtEnd c.line) (hand ++ more) ≡ wrong c.line Malformed
 past_last c [] more some = absurd (some refl)
-past_last c (b ∷ hand) more some = nothing_follows_law built_step c.line b (hand ++ more)
+past_last c (b ∷ hand) more some = nothing_follows_law step c.line b (hand ++ more)
 
 pub Stopped-past : (c : Checker) (hand : List ℕ) (u : Option (List ℕ)) → c.spot ≡ spot.End → (hand ≡ [] → ⊥) → Stopped c c hand refusal.Malformed u u
 Stopped-past c hand u end some = record {
   claims = [];
-  reads = λ more. ap (λ (s : Spot). reading_after built_step (place_at s c.line (state_of c.context)) (hand ++ more)) end ∙ past_last c hand more some;
+  reads = λ more. ap (λ (s : Spot). reading_after step (place_at s c.line (state_of c.context)) (hand ++ more)) end ∙ past_last c hand more some;
   text = Appends-nil u;
 }
 
@@ -213,21 +213,21 @@ line_read bytes (Err e) found none = tt
 
 -- ---- the moves of a place between two lines
 
-pub moves_between : (old : Checker) (bytes : List ℕ) (line : Line) (o : Option Step) → old.spot ≡ spot.Between → line_of bytes ≡ Some line → built_step (state_of old.context) line ≡ o →
-    move_at built_step (place_of old) (line_of bytes) ≡ move_by old.line (state_of old.context) o
+pub moves_between : (old : Checker) (bytes : List ℕ) (line : Line) (o : Option Step) → old.spot ≡ spot.Between → line_of bytes ≡ Some line → step (state_of old.context) line ≡ o →
+    move_at step (place_of old) (line_of bytes) ≡ move_by old.line (state_of old.context) o
 moves_between old bytes line o e f g =
-    ap (λ (s : Spot). move_at built_step (place_at s old.line (state_of old.context)) (line_of bytes)) e
-    ∙ ap (λ (l : Option Line). move_at built_step (Between old.line (state_of old.context)) l) f ∙ ap (move_by old.line (state_of old.context)) g
+    ap (λ (s : Spot). move_at step (place_at s old.line (state_of old.context)) (line_of bytes)) e
+    ∙ ap (λ (l : Option Line). move_at step (Between old.line (state_of old.context)) l) f ∙ ap (move_by old.line (state_of old.context)) g
 
-pub not_header : (old : Checker) (bytes : List ℕ) (line : Line) → old.spot ≡ spot.Start → line_of bytes ≡ Some line → is_header line.word ≡ false → move_at built_step (place_of old) (line_of bytes) ≡ Fails NotAllowed
+pub not_header : (old : Checker) (bytes : List ℕ) (line : Line) → old.spot ≡ spot.Start → line_of bytes ≡ Some line → is_header line.word ≡ false → move_at step (place_of old) (line_of bytes) ≡ Fails NotAllowed
 not_header old bytes line e f g =
-    ap (λ (s : Spot). move_at built_step (place_at s old.line (state_of old.context)) (line_of bytes)) e
-    ∙ ap (λ (l : Option Line). move_at built_step AtStart l) f ∙ ap (λ b. if b then Moves (Between 2 (start_of [])) else Fails NotAllowed) g
+    ap (λ (s : Spot). move_at step (place_at s old.line (state_of old.context)) (line_of bytes)) e
+    ∙ ap (λ (l : Option Line). move_at step AtStart l) f ∙ ap (λ b. if b then Moves (Between 2 (start_of [])) else Fails NotAllowed) g
 
-pub header : (old : Checker) (bytes : List ℕ) (line : Line) → old.spot ≡ spot.Start → line_of bytes ≡ Some line → is_header line.word ≡ true → move_at built_step (place_of old) (line_of bytes) ≡ Moves (Between 2 (start_of []))
+pub header : (old : Checker) (bytes : List ℕ) (line : Line) → old.spot ≡ spot.Start → line_of bytes ≡ Some line → is_header line.word ≡ true → move_at step (place_of old) (line_of bytes) ≡ Moves (Between 2 (start_of []))
 header old bytes line e f g =
-    ap (λ (s : Spot). move_at built_step (place_at s old.line (state_of old.context)) (line_of bytes)) e
-    ∙ ap (λ (l : Option Line). move_at built_step AtStart l) f ∙ ap (λ b. if b then Moves (Between 2 (start_of [])) else Fails NotAllowed) g
+    ap (λ (s : Spot). move_at step (place_at s old.line (state_of old.context)) (line_of bytes)) e
+    ∙ ap (λ (l : Option Line). move_at step AtStart l) f ∙ ap (λ b. if b then Moves (Between 2 (start_of [])) else Fails NotAllowed) g
 
 pub at_start : (old : Checker) → IsReady old → old.spot ≡ spot.Start → old.line ≡ 1
 at_start old ready e = ready.line ∙ ap (λ (s : Spot). next_line (place_at s old.line (state_of old.context))) e
@@ -243,7 +243,7 @@ pub extended : {T E : Type 0} (r : Result T E) (new whole other : List ℕ) → 
 extended (Ok x) new whole other e ok = e
 extended (Err x) new whole other e ok = absurd cc
 
-pub ends_place : (old new : Checker) (bytes : List ℕ) (line : Line) → old.spot ≡ spot.Between → line_of bytes ≡ Some line → built_step (state_of old.context) line ≡ Some Ends →
-    move_at built_step (place_of old) (line_of bytes) ≡ Moves (AtEnd (old.line + 1))
+pub ends_place : (old new : Checker) (bytes : List ℕ) (line : Line) → old.spot ≡ spot.Between → line_of bytes ≡ Some line → step (state_of old.context) line ≡ Some Ends →
+    move_at step (place_of old) (line_of bytes) ≡ Moves (AtEnd (old.line + 1))
 ends_place old new bytes line e f g =
     let one : suc old.line ≡ old.line + 1 = omega arith in moves_between old bytes line (Some Ends) e f g ∙ ap (λ n. Moves (AtEnd n)) one

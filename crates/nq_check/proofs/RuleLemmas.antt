@@ -26,16 +26,12 @@ use Rattle.nq_log.specs.States.{Block, State, Continues, clause_at, only_when}
 use Rattle.nq_log.specs.Logs.{continued}
 use Rattle.nq_log.specs.RuleLines.{are_without, with_clause, rule_line}
 use Rattle.nq_check.specs.declared.context.Context.{Context}
-use Rattle.nq_check.specs.Contexts.{clause_of, case_of, state_of, IsWhole}
+use Rattle.nq_check.specs.Contexts.{clause_of, case_of, measure_of, state_of, IsWhole}
 use Rattle.nq_check.specs.declared.judged.Judged.{Judged}
 use Rattle.nq_check.specs.Judging.{GoesOn, Leads}
-use Rattle.nq_check.proofs.ContextLemmas.{clause_same, log_grown, parts_grown, block_is, whole_grown, state_grown, events_grown}
+use Rattle.nq_check.proofs.ContextLemmas.{clause_same, introduced_grown, log_grown, parts_grown, block_is, whole_grown, state_grown, events_grown}
 
 -- ---- what a rule line comes to
-
-without_none : (ts : List Term) → are_without None ts ≡ true
-without_none [] = refl
-without_none (t ∷ ts) = without_none ts
 
 module _ (s : State) (r : Rule) where
   gives : (o : Option Clause) → are_without s.block.introduced (rule_terms r) ≡ true → conclusion s.history (clause_at s.block) r ≡ o →
@@ -90,19 +86,27 @@ deep_among term (t ∷ ts) (inr among) deep = second_fails (is_shallow t) (are_s
 
 pub conclusion_same : (c : Context) (rule : Coded) → conclusion_at c.bank c.history c.log rule ≡ conclusion (state_of c).history (clause_at (state_of c).block) (rule_at c.bank rule)
 unfolding conclusion_at
-conclusion_same c rule = λ i. conclusion (events_at c.bank c.history) (λ n. sym (clause_same c.bank c.terms.items c.log c.parts.items c.cases.items n) i) (rule_at c.bank rule)
+conclusion_same c rule = λ i. conclusion (events_at c.bank c.history) (λ n. sym (clause_same c.bank c.introduced c.terms.items c.log c.parts.items c.cases.items c.measure n) i) (rule_at c.bank rule)
 
 none_of : (o : Option Clause) → is_some o ≡ false → o ≡ None
 none_of None e = refl
 none_of (Some c) e = absurd cc
 
-pub line_denied : (c : Context) (rule : Coded) → is_some (conclusion_at c.bank c.history c.log rule) ≡ false → continued (rule_line (state_of c) (Some (rule_at c.bank rule))) ≡ None
-line_denied c rule e =
-    ap continued (rule_denied (state_of c) (rule_at c.bank rule) (without_none (rule_terms (rule_at c.bank rule))) (sym (conclusion_same c rule) ∙ none_of (conclusion_at c.bank c.history c.log rule) e))
+-- the rule names no term with the function that the block introduces
+abbrev pub IsOlder : Context → Coded → Type 0
+IsOlder c rule = are_without (state_of c).block.introduced (rule_terms (rule_at c.bank rule)) ≡ true
 
-pub line_too_deep : (c : Context) (rule : Coded) → IsDeep (conclusion_at c.bank c.history c.log rule) → continued (rule_line (state_of c) (Some (rule_at c.bank rule))) ≡ None
-line_too_deep c rule d =
-    ap continued (rule_too_deep (state_of c) (rule_at c.bank rule) d.terms (without_none (rule_terms (rule_at c.bank rule))) (sym (conclusion_same c rule) ∙ d.concluded)
+pub line_newer : (c : Context) (rule : Coded) → are_without (state_of c).block.introduced (rule_terms (rule_at c.bank rule)) ≡ false → continued (rule_line (state_of c) (Some (rule_at c.bank rule))) ≡ None
+line_newer c rule e =
+    ap (λ b. continued (only_when b (rule_at c.bank rule) >>= λ rule. conclusion (state_of c).history (clause_at (state_of c).block) rule >>= λ d. only_when (are_shallow d) (with_clause (state_of c).block d))) e
+
+pub line_denied : (c : Context) (rule : Coded) → IsOlder c rule → is_some (conclusion_at c.bank c.history c.log rule) ≡ false → continued (rule_line (state_of c) (Some (rule_at c.bank rule))) ≡ None
+line_denied c rule older e =
+    ap continued (rule_denied (state_of c) (rule_at c.bank rule) older (sym (conclusion_same c rule) ∙ none_of (conclusion_at c.bank c.history c.log rule) e))
+
+pub line_too_deep : (c : Context) (rule : Coded) → IsOlder c rule → IsDeep (conclusion_at c.bank c.history c.log rule) → continued (rule_line (state_of c) (Some (rule_at c.bank rule))) ≡ None
+line_too_deep c rule older d =
+    ap continued (rule_too_deep (state_of c) (rule_at c.bank rule) d.terms older (sym (conclusion_same c rule) ∙ d.concluded)
     (deep_among d.deep.term d.terms d.deep.among d.deep.deep))
 
 -- ---- a line was added
@@ -111,18 +115,18 @@ pushed_line : (bank : Content) (log : List Line) (line : Line) → line.stands �
 pushed_line bank log line stands =
     ap (λ b. map (clause_of bank) log ++ (option_map (terms_at bank) (ids_if b line.clause.items) ∷ [])) (sym stands) ∙ sym (map-append (clause_of bank) log (line ∷ []))
 
-pub line_goes_on : (old : Context) (bank : Content) (log : List Line) (rule : Coded) (n : ℕ) → IsWhole old → Grows old.bank bank → IsSound bank → IsOver bank log → Adds old.bank bank old.history old.log log rule n →
+pub line_goes_on : (old : Context) (bank : Content) (log : List Line) (rule : Coded) (n : ℕ) → IsOlder old rule → IsWhole old → Grows old.bank bank → IsSound bank → IsOver bank log → Adds old.bank bank old.history old.log log rule n →
     GoesOn (state_of old) (continued (rule_line (state_of old) (Some (rule_at old.bank rule)))) (record old { bank = bank; log = log })
-line_goes_on old bank log rule n whole h sound over adds =
+line_goes_on old bank log rule n older whole h sound over adds =
     let clause = terms_at bank adds.line.clause.items in
     let lines : map (clause_of old.bank) old.log ++ (Some clause ∷ []) ≡ map (clause_of bank) log =
     ap (λ (ls : List (Option Clause)). ls ++ (Some clause ∷ [])) (log_grown old.bank bank old.log h whole.lines)
     ∙ pushed_line bank old.log adds.line adds.stands_is ∙ ap (map (clause_of bank)) (sym adds.whole) in
     record {
-      whole = let w = whole_grown old bank h whole in record { history = w.history; terms = w.terms; lines = over; parts = w.parts };
-      step = ap continued (rule_gives (state_of old) (rule_at old.bank rule) clause (without_none (rule_terms (rule_at old.bank rule)))
+      whole = let w = whole_grown old bank h whole in record { history = w.history; introduced = w.introduced; terms = w.terms; lines = over; parts = w.parts };
+      step = ap continued (rule_gives (state_of old) (rule_at old.bank rule) clause older
           (sym (conclusion_same old rule) ∙ adds.clause.concluded) (stand_shallow bank adds.line.clause.items sound adds.clause.stand))
-          ∙ ap (λ (b : Block). Some (Continues b)) (block_is _ _ _ _ _ _ (map case_of old.cases.items) (sym (terms_at-grown old.bank bank old.terms.items h whole.terms)) lines (parts_grown old.bank bank h old.parts.items whole.parts));
+          ∙ ap (λ (b : Block). Some (Continues b)) (block_is _ _ _ _ _ _ _ _ (map case_of old.cases.items) (option_map measure_of old.measure) (introduced_grown old.bank bank old.introduced h whole.introduced) (sym (terms_at-grown old.bank bank old.terms.items h whole.terms)) lines (parts_grown old.bank bank h old.parts.items whole.parts));
       history = events_grown old bank h whole;
     }
 

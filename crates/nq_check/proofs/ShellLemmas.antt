@@ -43,7 +43,7 @@ pub part_goes_on : (old : Context) (bank : Content) (parts : Vec Part Global) (p
     part_at bank part ≡ told_part a kind d names → parts.items ≡ old.parts.items ++ part ∷ [] →
     GoesOn (state_of old) (continued (part_line (state_of old) (name a ∷ mode kind ∷ name d ∷ flat_map one_name names))) (record old { bank = bank; parts = parts })
 part_goes_on old bank parts part a kind d names whole h stands is pushed = record {
-  whole = let w = whole_grown old bank h whole in record { history = w.history; terms = w.terms; lines = w.lines; parts = subst (All (PartStands bank)) (sym pushed) (All-push (PartStands bank) old.parts.items part w.parts stands) };
+  whole = let w = whole_grown old bank h whole in record { history = w.history; introduced = w.introduced; terms = w.terms; lines = w.lines; parts = subst (All (PartStands bank)) (sym pushed) (All-push (PartStands bank) old.parts.items part w.parts stands) };
   step =
       ap (λ (o : Option (List Name)). continued (o >>= λ rs. Some (record (state_of old).block { parts = (state_of old).block.parts ++ (told_part a kind d rs ∷ []) }))) (names_again names)
       ∙ ap (λ (ps : List PartOfTexts). Some (Continues (record (state_of old).block { parts = ps }))) whole_parts
@@ -128,24 +128,26 @@ accepted_unused f earlier s e = by_first (f s.constructor) refl
 -- ---- SHELL
 
 -- room and names aside, the block may end in a shell
-lost : (cases room ok few short : Bool) → (cases && few && short) ≡ false → ((cases && room) && (ok && few && short)) ≡ false
-lost false room ok few short e = refl
-lost true false ok few short e = refl
-lost true true false few short e = refl
-lost true true true few short e = e
+lost : (alone cases room ok few short : Bool) → (alone && cases && few && short) ≡ false → ((alone && cases && room) && (ok && few && short)) ≡ false
+lost false cases room ok few short e = refl
+lost true false room ok few short e = refl
+lost true true false ok few short e = refl
+lost true true true false few short e = refl
+lost true true true true few short e = e
 
 barred : (first ok few short : Bool) → ok ≡ false → (first && (ok && few && short)) ≡ false
 barred true false few short e = refl
 barred false ok few short e = refl
 barred true true few short e = absurd cc
 
-kept : (cases room ok few short used : Bool) → (cases && few && short) ≡ true → ok ≡ true → used ≡ false → ((cases && room) && (ok && few && short)) ≡ (room && not used)
-kept false room ok few short used e f g = absurd cc
-kept true room ok false short used e f g = absurd cc
-kept true room ok true false used e f g = absurd cc
-kept true room false true true used e f g = absurd cc
-kept true room true true true true e f g = absurd cc
-kept true room true true true false e f g = refl
+kept : (alone cases room ok few short used : Bool) → (alone && cases && few && short) ≡ true → ok ≡ true → used ≡ false → ((alone && cases && room) && (ok && few && short)) ≡ (room && not used)
+kept false cases room ok few short used e f g = absurd cc
+kept true false room ok few short used e f g = absurd cc
+kept true true room ok false short used e f g = absurd cc
+kept true true room ok true false used e f g = absurd cc
+kept true true room false true true used e f g = absurd cc
+kept true true room true true true true e f g = absurd cc
+kept true true room true true true false e f g = refl
 
 -- a claim that is judged after the parts were taken is judged of the line
 pub leads_from : (s t : State) (next : Option Step) (judged : Judged) (new : Context) → s.history ≡ t.history → Leads s next judged new → Leads t next judged new
@@ -171,26 +173,26 @@ module _ (old : Context) (c b r : Name) where
 
   -- whether the block may end in a shell, as far as its names do not tell
   abbrev may_end : Bool
-  may_end = is_empty (state_of old).block.cases && nat_le (length (state_of old).block.parts) 20 && are_short (state_of old).block.parts
+  may_end = is_none (state_of old).block.introduced && is_empty (state_of old).block.cases && nat_le (length (state_of old).block.parts) 20 && are_short (state_of old).block.parts
 
   pub shell_denied : may_end ≡ false → claimed (shell_claim (state_of old) line) ≡ None
   shell_denied e =
       let h = (state_of old).history in
       let block = (state_of old).block in
-      ap (λ b. claimed (only_when b (Adds (AddShell told)))) (lost (is_empty block.cases) (has_room h) (is_none (refusal h told)) (nat_le (length block.parts) 20) (are_short block.parts) e)
+      ap (λ b. claimed (only_when b (Adds (AddShell told)))) (lost (is_none block.introduced) (is_empty block.cases) (has_room h) (is_none (refusal h told)) (nat_le (length block.parts) 20) (are_short block.parts) e)
 
   shell_refused : is_none (refusal (state_of old).history told) ≡ false → claimed (shell_claim (state_of old) line) ≡ None
   shell_refused e =
       let h = (state_of old).history in
       let block = (state_of old).block in
-      ap (λ b. claimed (only_when b (Adds (AddShell told)))) (barred (is_empty block.cases && has_room h) (is_none (refusal h told)) (nat_le (length block.parts) 20) (are_short block.parts) e)
+      ap (λ b. claimed (only_when b (Adds (AddShell told)))) (barred (is_none block.introduced && is_empty block.cases && has_room h) (is_none (refusal h told)) (nat_le (length block.parts) 20) (are_short block.parts) e)
 
   shell_kept : may_end ≡ true → is_none (refusal (state_of old).history told) ≡ true → claimed (shell_claim (state_of old) line) ≡ claimed (only_when (has_place (state_of old).history c) (Adds (AddShell told)))
   shell_kept may e =
       let h = (state_of old).history in
       let block = (state_of old).block in
       ap (λ b. claimed (only_when b (Adds (AddShell told))))
-      (kept (is_empty block.cases) (has_room h) (is_none (refusal h told)) (nat_le (length block.parts) 20) (are_short block.parts) (is_in_use c h) may e (accepted_unused (λ n. is_in_use n h) (shells_of h) told e))
+      (kept (is_none block.introduced) (is_empty block.cases) (has_room h) (is_none (refusal h told)) (nat_le (length block.parts) 20) (are_short block.parts) (is_in_use c h) may e (accepted_unused (λ n. is_in_use n h) (shells_of h) told e))
 
   -- the same, of the shell and the history that the context has behind the parts
   pub refused_after : (h : History) (s : ShellOfTexts) → h ≡ (state_of old).history → s ≡ told → is_none (refusal h s) ≡ false → claimed (shell_claim (state_of old) line) ≡ None

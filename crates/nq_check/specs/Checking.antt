@@ -4,7 +4,7 @@ use Rattle.std.specs.Io.KnownBytes.{Appends, Consumes}
 use Rattle.nq_log.specs.Logs.{Reading, reading_by}
 use Rattle.nq_log.specs.Laws.{ClaimsHold}
 use Rattle.nq_log.specs.Streams.{reading_at_end}
-use Rattle.nq_log.specs.Stage.{built_step}
+use Rattle.nq_log.specs.Logs.{step}
 use Rattle.nq_check.specs.declared.checker.Checker.{Checker}
 use Rattle.nq_check.specs.declared.verdict.Checked.{Checked}
 use Rattle.nq_check.specs.declared.verdict.CheckFault.{CheckFault}
@@ -29,18 +29,18 @@ pub record EndsSo (c : Checker) (answer : Checked) : Type 0 where
 -- the text has this reading, which shows within the limit and gives the answer; the lines of its claims were written
 pub record IsJudged (left held now : Option (List ℕ)) (answer : Checked) : Type 0 where
   pub reading : Reading
-  pub read : IfSome left (λ text. reading_by built_step text ≡ reading)
-  pub within : IfSome left (λ text. reading_by built_step (take log_limit text) ≡ reading)
+  pub read : IfSome left (λ text. reading_by step text ≡ reading)
+  pub within : IfSome left (λ text. reading_by step (take log_limit text) ≡ reading)
   pub answers : Answers (length reading.claims) reading.ending answer
   pub text : Appends held now (claims_text reading.claims)
   pub sound : ClaimsHold [] reading.claims
 
 -- what stands where no verdict was come to
 abbrev pub Breaks : Option (List ℕ) → Option (List ℕ) → Option (List ℕ) → CheckFault → Type 0
-Breaks left held now fault.Read = IsUnread built_step left held now
-Breaks left held now fault.Write = IsCutOff built_step left held now
-Breaks left held now fault.TooLong = IsTooLong built_step left held now
-Breaks left held now fault.Memory = IsCutOff built_step left held now
+Breaks left held now fault.Read = IsUnread step left held now
+Breaks left held now fault.Write = IsCutOff step left held now
+Breaks left held now fault.TooLong = IsTooLong step left held now
+Breaks left held now fault.Memory = IsCutOff step left held now
 
 -- what stands before the verdict is written
 abbrev pub Judges : Option (List ℕ) → Option (List ℕ) → Option (List ℕ) → Result Checked CheckFault → Type 0

@@ -34,7 +34,7 @@ Leads old next judged.Continues new = GoesOn old next new
 Leads old next (judged.Claims text) new = IsClaimed old next text.items new
 Leads old next judged.Ends new = (next ≡ Some Ends) × IsWhole new
 
--- the rule that a line tells, where it is a rule's that is built
+-- the rule that a line tells, where it is a rule's
 abbrev pub rule_of_word : Block → List Field → Word → Option Rule
 rule_of_word block fields word.Taut = taut_rule block fields
 rule_of_word block fields word.Weaken = weaken_rule block fields

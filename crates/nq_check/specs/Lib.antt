@@ -2,12 +2,14 @@ pub mod Texts
 pub mod Outcomes
 pub mod Functions
 pub mod Contexts
+pub mod Variables
 pub mod Pairs
 pub mod Sums
 pub mod Cases
 pub mod Judging
 pub mod Claims
 pub mod Shells
+pub mod Measures
 pub mod Definitions
 pub mod Passing
 pub mod Checking

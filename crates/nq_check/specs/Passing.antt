@@ -7,7 +7,7 @@ use Rattle.nq_log.specs.Logs.{Reading, wrong}
 use Rattle.nq_log.specs.Blocks.{HasNoLineFeed}
 use Rattle.nq_log.specs.Growing.{with_claims}
 use Rattle.nq_log.specs.Streams.{Place, AtStart, Between, AtEnd, next_line, reading_after, Move, Moves, Establishes, Fails}
-use Rattle.nq_log.specs.Stage.{built_step}
+use Rattle.nq_log.specs.Logs.{step}
 use Rattle.nq_check.specs.declared.checker.Spot.{Spot}
 use Rattle.nq_check.specs.declared.checker.Spot.TheVariants as spot
 use Rattle.nq_check.specs.declared.checker.Moved.{Moved}
@@ -35,7 +35,7 @@ pub record IsReady (c : Checker) : Type 0 where
 
 -- the reading of a text from the checker's place
 abbrev pub reading_from : Checker → List ℕ → Reading
-reading_from c text = reading_after built_step (place_of c) text
+reading_from c text = reading_after step (place_of c) text
 
 -- the checker stands at the next line
 pub record StepsTo (old new : Checker) : Type 0 where

@@ -169,7 +169,7 @@ fn is_accessor(bank: &Bank, parts: &[Part], f: Sym, count: u64) -> bool
 
 /// Are both the names and the counts the same?
 #[tactic(auto, using(crate::proofs::ArityLemmas::one_symbol))]
-fn is_symbol(bank: &Bank, f: Sym, count: u64, known: Sym, arity: u64) -> bool
+pub fn is_symbol(bank: &Bank, f: Sym, count: u64, known: Sym, arity: u64) -> bool
     requires function { IsNamed bank.now f }
     requires known { IsNamed bank.now known }
     ensures { result ≡ has_symbol (text_at bank.now f) count ((text_at bank.now known, arity) ∷ []) }

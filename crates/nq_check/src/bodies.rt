@@ -1,13 +1,15 @@
-//! Which variables and which functions stand in a term. A walk takes a step for each node of the tree, shared or not: these
-//! are for terms that are small enough to be claimed.
-ghost use Rattle.std.specs.Prelude.{◌≡◌, All};
-ghost use Rattle.nq_logic.specs.Admissible.{has_variables, mentions};
+//! Which variables stand in a term. A walk looks at each shared node once.
+ghost use Rattle.std.specs.Prelude.{◌≡◌, All, IfOk, OnOk, Some, nat_eq};
+ghost use Rattle.std.specs.HashMap.{get, Updates};
+ghost use Rattle.nq_logic.specs.Admissible.{has_variables};
 ghost use Rattle.nq_logic.specs.Names.{are_distinct, has_name};
-ghost use Rattle.nq_logic.specs.Words.{numeral};
 ghost use Rattle.nq_bank.specs.Content.{IsNamed, Stands, term_at, text_at};
 ghost use Rattle.nq_bank.specs.Shells.{texts_at};
+ghost use Rattle.nq_check.specs.Variables.{HasAnswers};
 
-use nq_bank::{Bank, Node, Sym, TermId, ground, is_same_name};
+use nq_bank::{Bank, Node, Sym, TermId, is_same_name};
+use std::alloc::AllocError;
+use std::collections::HashMap;
 
 /// Is a name one of these?
 fn has_name(bank: &Bank, name: Sym, names: &[Sym]) -> bool
@@ -36,56 +38,58 @@ pub fn are_distinct(bank: &Bank, names: &[Sym]) -> bool
     true
 }
 
+/// The answer that is known for a term.
+fn known_answer(known: &HashMap<u64, bool>, t: TermId) -> Option<bool>
+    ensures { result ≡ get nat_eq known.now t.0 }
+{
+    known.get(&t.0).copied()
+}
+
+/// Keeps the answer for a term.
+fn keep_answer(known: &mut HashMap<u64, bool>, t: TermId, answer: bool) -> Result<(), AllocError>
+    ensures { OnOk result (Updates nat_eq known.old known.new t.0 (Some answer)) }
+{
+    known.insert(t.0, answer)?;
+    Ok(())
+}
+
 /// Is each variable of a term one of these?
-pub fn has_variables(bank: &Bank, names: &[Sym], t: TermId) -> bool
+pub fn has_variables(bank: &Bank, names: &[Sym], t: TermId) -> Result<bool, AllocError>
     requires names { All (IsNamed bank.now) names.now }
     requires term { Stands bank.now t }
-    ensures { result ≡ has_variables (texts_at bank.now names.now) (term_at bank.now t) }
+    ensures { IfOk result (λ answer. answer ≡ has_variables (texts_at bank.now names.now) (term_at bank.now t)) }
 {
-    match bank.node(t) {
-        Node::Var(s) => has_name(bank, s, names),
-        Node::Num(_) => true,
-        Node::App(_, _) => {
-            for a in bank.args(t) {
-                if !has_variables(bank, names, *a) {
-                    return false;
-                }
-            }
-            true
-        }
-    }
+    let mut known = HashMap::new(bank.alloc());
+    has_variables_within(bank, &mut known, names, t)
 }
 
-/// Does a function stand in the numeral of n, which is made of ADD1 and ZERO?
-fn makes_numeral(bank: &Bank, f: Sym, n: u128) -> bool
-    requires { IsNamed bank.now f }
-    ensures { result ≡ mentions (text_at bank.now f) (numeral n) }
-{
-    if n == 0 {
-        return bank.is_ground(f, ground::ZERO);
-    }
-    bank.is_ground(f, ground::ADD1) || bank.is_ground(f, ground::ZERO)
-}
-
-/// Does a function stand in a term?
-pub fn mentions(bank: &Bank, f: Sym, t: TermId) -> bool
-    requires function { IsNamed bank.now f }
+/// The same, where the answers for some terms are known.
+fn has_variables_within(
+    bank: &Bank,
+    known: &mut HashMap<u64, bool>,
+    names: &[Sym],
+    t: TermId,
+) -> Result<bool, AllocError>
+    requires names { All (IsNamed bank.now) names.now }
     requires term { Stands bank.now t }
-    ensures { result ≡ mentions (text_at bank.now f) (term_at bank.now t) }
+    requires answers { HasAnswers bank.now (texts_at bank.now names.now) known.old }
+    ensures ok { IfOk result (λ answer. answer ≡ has_variables (texts_at bank.now names.now) (term_at bank.now t)) }
+    ensures answers { OnOk result (HasAnswers bank.now (texts_at bank.now names.now) known.new) }
 {
     match bank.node(t) {
-        Node::Var(_) => false,
-        Node::Num(n) => makes_numeral(bank, f, n),
-        Node::App(g, _) => {
-            if is_same_name(bank, f, g) {
-                return true;
-            }
-            for a in bank.args(t) {
-                if mentions(bank, f, *a) {
-                    return true;
+        Node::Var(s) => Ok(has_name(bank, s, names)),
+        Node::Num(_) => Ok(true),
+        Node::App(_, _) => match known_answer(known, t) {
+            Some(answer) => Ok(answer),
+            None => {
+                for a in bank.args(t) {
+                    if !has_variables_within(bank, known, names, *a)? {
+                        return Ok(false);
+                    }
                 }
+                keep_answer(known, t, true)?;
+                Ok(true)
             }
-            false
-        }
+        },
     }
 }

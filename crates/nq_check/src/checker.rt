@@ -7,7 +7,7 @@ ghost use Rattle.nq_logtext.specs.Views.{view};
 ghost use Rattle.nq_log.specs.Blocks.{HasNoLineFeed};
 ghost use Rattle.nq_log.specs.Logs.{is_header};
 ghost use Rattle.nq_log.specs.Streams.{AtStart, move_at};
-ghost use Rattle.nq_log.specs.Stage.{built_step};
+ghost use Rattle.nq_log.specs.Logs.{step};
 ghost use Rattle.nq_check.specs.Passing.{place_of, IsReady, IsMove, Passed, Stopped, Interrupted};
 
 use crate::context::Context;
@@ -117,7 +117,7 @@ impl Checker {
     pub fn take_line(&mut self, bytes: &[u8]) -> Result<Moved, AllocError>
         requires ready { IsReady self.old }
         requires room { self.old.line + 1 < 2 ^ 64 }
-        ensures { IfOk result (λ moved. IsMove (move_at built_step (place_of self.old) (line_of bytes.now)) moved self.old self.new) }
+        ensures { IfOk result (λ moved. IsMove (move_at step (place_of self.old) (line_of bytes.now)) moved self.old self.new) }
     {
         match self.spot {
             Spot::Start => self.take_header(bytes),
@@ -130,7 +130,7 @@ impl Checker {
         requires ready { IsReady self.old }
         requires room { self.old.line + 1 < 2 ^ 64 }
         requires start { self.old.spot ≡ Spot.Start }
-        ensures { IfOk result (λ moved. IsMove (move_at built_step (place_of self.old) (line_of bytes.now)) moved self.old self.new) }
+        ensures { IfOk result (λ moved. IsMove (move_at step (place_of self.old) (line_of bytes.now)) moved self.old self.new) }
     {
         let alloc = self.context.bank.alloc();
         let Some(line) = read_line(alloc, bytes)? else {
@@ -150,7 +150,7 @@ impl Checker {
         requires ready { IsReady self.old }
         requires room { self.old.line + 1 < 2 ^ 64 }
         requires between { self.old.spot ≡ Spot.Between }
-        ensures { IfOk result (λ moved. IsMove (move_at built_step (place_of self.old) (line_of bytes.now)) moved self.old self.new) }
+        ensures { IfOk result (λ moved. IsMove (move_at step (place_of self.old) (line_of bytes.now)) moved self.old self.new) }
     {
         let Some(line) = read_line(self.context.bank.alloc(), bytes)? else {
             return Ok(Moved::Fails(Refusal::Malformed));

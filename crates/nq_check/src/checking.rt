@@ -3,7 +3,7 @@ ghost use Rattle.std.specs.Prelude.{◌≡◌, ◌+◌, ◌<◌, ◌≤◌, ◌^
 ghost use Rattle.std.specs.Io.KnownBytes.{Appends, Consumes, IsAtEnd, Keeps};
 ghost use Rattle.nq_io.specs.Faults.{HasCause, Rose};
 ghost use Rattle.nq_log.specs.Streams.{AtStart};
-ghost use Rattle.nq_log.specs.Stage.{built_step};
+ghost use Rattle.nq_log.specs.Logs.{step};
 ghost use Rattle.nq_io.specs.Told.{AppendsPart};
 ghost use Rattle.nq_check.specs.Outcomes.{answer_text, Checks};
 ghost use Rattle.nq_check.specs.Passing.{place_of, IsReady};
@@ -118,7 +118,7 @@ pub fn check<S: Source, O: Sink>(
     out: &mut O,
 ) -> Result<Checked, CheckFault>
     // The answer, what was written, and that each claim that was written holds in the history of the claims before it.
-    ensures checks { Checks built_step (S.left src.old) (O.written out.old) (O.written out.new) result }
+    ensures checks { Checks step (S.left src.old) (O.written out.old) (O.written out.new) result }
 
     // A fault of a stream has its cause.
     ensures read { result ≡ Err CheckFault.Read → Rose (S.faults src.old) (S.faults src.new) }

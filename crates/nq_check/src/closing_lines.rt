@@ -77,13 +77,15 @@ impl Context {
     }
 
     /// Has the block no line yet?
-    fn is_untouched(&self) -> bool
+    pub fn is_untouched(&self) -> bool
         ensures { result ≡ is_untouched (state_of self.now).block }
     {
-        self.terms.is_empty()
+        self.introduced.is_none()
+            && self.terms.is_empty()
             && self.log.len() == 0
             && self.parts.is_empty()
             && self.cases.is_empty()
+            && self.measure.is_none()
     }
 
     /// `BOOT-STRAP`

@@ -7,22 +7,24 @@ ghost use Rattle.nq_log.specs.States.{numbered, start_of, term_at as term_of_blo
 ghost use Rattle.nq_log.specs.ClosingLines.{is_plain};
 ghost use Rattle.nq_check.specs.Contexts.{state_of, IsKept, IsWhole};
 
-use crate::waiting::CaseLine;
+use crate::waiting::{CaseLine, Introduced, MeasureLine};
 use nq_bank::{Bank, Part, TermId};
 use nq_history::History;
 use nq_kernel::Log;
 use std::alloc::{AllocError, Global};
 
-/// The events so far, and the block so far: its terms and its lines, which are named by their numbers from 1, and the lines
-/// that wait for a shell or an induction.
+/// The events so far, and the block so far: the function that it introduces, its terms and its lines, which are named by their
+/// numbers from 1, and the lines that wait for a shell, an induction or a definition.
 #[derive(Drop)]
 pub struct Context {
     pub bank: Bank,
     pub history: History,
+    pub introduced: Option<Introduced>,
     pub terms: Vec<TermId>,
     pub log: Log,
     pub parts: Vec<Part>,
     pub cases: Vec<CaseLine>,
+    pub measure: Option<MeasureLine>,
 }
 
 impl Context {
@@ -36,10 +38,12 @@ impl Context {
         Ok(Context {
             bank,
             history,
+            introduced: None,
             terms: Vec::new(alloc),
             log: Log::new(alloc),
             parts: Vec::new(alloc),
             cases: Vec::new(alloc),
+            measure: None,
         })
     }
 
@@ -52,11 +56,11 @@ impl Context {
         term_numbered(self.terms.as_slice(), number)
     }
 
-    /// Does no line of the block wait for a shell or an induction?
+    /// Does the block introduce no function, and does no line of it wait for a shell or an induction?
     pub fn is_plain(&self) -> bool
         ensures { result ≡ is_plain (state_of self.now).block }
     {
-        self.parts.is_empty() && self.cases.is_empty()
+        self.introduced.is_none() && self.parts.is_empty() && self.cases.is_empty()
     }
 
     /// Begins a block.
@@ -64,10 +68,12 @@ impl Context {
         ensures whole { IsKept self.old.bank self.old.history → IsWhole self.new }
         ensures state { state_of self.new ≡ start_of (events_at self.old.bank self.old.history) }
     {
+        self.introduced = None;
         self.terms.clear();
         self.log = Log::new(self.bank.alloc());
         self.parts.clear();
         self.cases.clear();
+        self.measure = None;
     }
 }
 

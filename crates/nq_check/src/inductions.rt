@@ -35,14 +35,14 @@ fn put_step(cases: &mut Vec<CaseOfInduction>, step: InductionStep) -> Result<boo
 
 impl Context {
     /// Has the block a line of this number, dropped or not?
-    fn has_line(&self, line: u64) -> bool
+    pub fn has_line(&self, line: u64) -> bool
         ensures { result ≡ has_line (state_of self.now).block line }
     {
         1 <= line && line <= self.log.len()
     }
 
     /// Has the block a term of this number?
-    fn has_term(&self, number: u64) -> bool
+    pub fn has_term(&self, number: u64) -> bool
         requires { IsWhole self.now }
         ensures { result ≡ has_term_at (state_of self.now).block number }
     {

@@ -1,11 +1,10 @@
 //! What each line of a log leads to.
-ghost use Rattle.std.specs.Prelude.{◌≡◌, IfOk, IfSome};
+ghost use Rattle.std.specs.Prelude.{◌≡◌, ◌||◌, IfOk, IfSome, is_none};
 ghost use Rattle.std.specs.Option.{option_map};
 ghost use Rattle.nq_logtext.specs.Views.{view};
 ghost use Rattle.nq_kernel.specs.Meaning.{rule_at, RuleStands};
 ghost use Rattle.nq_log.specs.RuleLines.{rule_line};
-ghost use Rattle.nq_log.specs.Logs.{continued};
-ghost use Rattle.nq_log.specs.Stage.{built_step};
+ghost use Rattle.nq_log.specs.Logs.{continued, is_definition_word, step, step_by};
 ghost use Rattle.nq_check.specs.Contexts.{state_of, IsWhole};
 ghost use Rattle.nq_check.specs.Judging.{Leads, rule_by};
 
@@ -15,16 +14,77 @@ use nq_kernel::Rule;
 use nq_logtext::LogLine;
 use std::alloc::AllocError;
 
+/// Is a line that of a definition?
+fn is_definition(line: &LogLine) -> bool
+    ensures { result ≡ is_definition_word (view line.now).word }
+{
+    match line {
+        LogLine::Header { .. } => false,
+        LogLine::End => false,
+        LogLine::Function { .. } => false,
+        LogLine::Variable { .. } => false,
+        LogLine::Numeral { .. } => false,
+        LogLine::Call { .. } => false,
+        LogLine::Taut { .. } => false,
+        LogLine::Axiom { .. } => false,
+        LogLine::Event { .. } => false,
+        LogLine::Weaken { .. } => false,
+        LogLine::Cut { .. } => false,
+        LogLine::Inst { .. } => false,
+        LogLine::Refl { .. } => false,
+        LogLine::Replace { .. } => false,
+        LogLine::Join { .. } => false,
+        LogLine::Split { .. } => false,
+        LogLine::NotNot { .. } => false,
+        LogLine::Value { .. } => false,
+        LogLine::Linear { .. } => false,
+        LogLine::Induct { .. } => false,
+        LogLine::Drop { .. } => false,
+        LogLine::Case { .. } => false,
+        LogLine::Hyp { .. } => false,
+        LogLine::BootStrap => false,
+        LogLine::Shell { .. } => false,
+        LogLine::Part { .. } => false,
+        LogLine::Dcl { .. } => false,
+        LogLine::Axiomatize { .. } => false,
+        LogLine::Lemma { .. } => false,
+        LogLine::Defn { .. } => true,
+        LogLine::Measure { .. } => false,
+        LogLine::Toggle { .. } => false,
+        LogLine::Undo { .. } => false,
+    }
+}
+
 impl Context {
-    /// Judges a line: where it is allowed, the context is the one after it.
+    /// Judges a line: where it is allowed, the context is the one after it. A measure is followed by its definition.
     pub fn judge(&mut self, line: &LogLine) -> Result<Judged, AllocError>
         requires { IsWhole self.old }
-        ensures { IfOk result (λ judged. Leads (state_of self.old) (built_step (state_of self.old) (view line.now)) judged self.new) }
+        ensures { IfOk result (λ judged. Leads (state_of self.old) (step (state_of self.old) (view line.now)) judged self.new) }
+    {
+        if !self.may_follow(line) {
+            return Ok(Judged::NotAllowed);
+        }
+        self.judge_alone(line)
+    }
+
+    /// Does no measure wait, or is the line that of a definition?
+    fn may_follow(&self, line: &LogLine) -> bool
+        ensures { result ≡ (is_none (state_of self.now).block.measure || is_definition_word (view line.now).word) }
+    {
+        self.measure.is_none() || is_definition(line)
+    }
+
+    /// Judges a line, whether or not a measure waits.
+    fn judge_alone(&mut self, line: &LogLine) -> Result<Judged, AllocError>
+        requires { IsWhole self.old }
+        ensures { IfOk result (λ judged. Leads (state_of self.old) (step_by (state_of self.old) (view line.now).fields (view line.now).word) judged self.new) }
     {
         match line {
             LogLine::Header { .. } => Ok(Judged::NotAllowed),
             LogLine::End => Ok(self.end_line()),
-            LogLine::Function { .. } => Ok(Judged::NotAllowed),
+            LogLine::Function { function, arity } => {
+                self.function_line(function.as_slice(), *arity)
+            }
             LogLine::Variable { name } => self.variable_line(name.as_slice()),
             LogLine::Numeral { value } => self.numeral_line(*value),
             LogLine::Call {
@@ -86,7 +146,11 @@ impl Context {
                 body,
                 formals,
             } => self.definition_line(function.as_slice(), *body, formals.as_slice()),
-            LogLine::Measure { .. } => Ok(Judged::NotAllowed),
+            LogLine::Measure {
+                measure,
+                ordinal,
+                lines,
+            } => self.measure_line(*measure, *ordinal, lines.as_slice()),
             LogLine::Toggle {
                 name,
                 old,
@@ -105,7 +169,7 @@ impl Context {
         self.rule_line(rule)
     }
 
-    /// The rule of a line, where it is a rule's that is built and its numbers have terms.
+    /// The rule of a line, where it is a rule's and its numbers have terms.
     fn rule_of(&self, line: &LogLine) -> Result<Option<Rule>, AllocError>
         requires { IsWhole self.now }
         ensures rule { IfOk result (λ rule. option_map (rule_at self.now.bank) rule ≡ rule_by (state_of self.now).block (view line.now)) }

@@ -1,15 +1,17 @@
 //! The lines that give a block its clauses.
-ghost use Rattle.std.specs.Prelude.{◌≡◌, [], ◌∷◌, IfOk, IfSome, IsSome, Some};
+ghost use Rattle.std.specs.Prelude.{◌≡◌, [], ◌∷◌, IfOk, IfSome, IsSome, Some, true};
 ghost use Rattle.std.specs.Option.{option_map};
 ghost use Rattle.nq_logtext.specs.Fields.{name, number};
 ghost use Rattle.nq_kernel.specs.Meaning.{rule_at, RuleStands, conclusion_at};
 ghost use Rattle.nq_log.specs.Logs.{continued};
-ghost use Rattle.nq_log.specs.RuleLines.{axiom_rule, event_rule, rule_line, drop_line};
+ghost use Rattle.nq_proof.specs.Rules.{rule_terms};
+ghost use Rattle.nq_log.specs.RuleLines.{are_without, axiom_rule, event_rule, rule_line, drop_line};
 ghost use Rattle.nq_check.specs.Contexts.{state_of, IsWhole};
 ghost use Rattle.nq_check.specs.Judging.{Leads};
 
 use crate::context::Context;
 use crate::judged::Judged;
+use crate::rule_terms::is_in_rule;
 use nq_bank::BankFault;
 use nq_kernel::Rule;
 use std::alloc::AllocError;
@@ -27,12 +29,30 @@ impl Context {
         }
     }
 
+    /// Does the function that the block introduces stand in no term that a rule names?
+    fn is_older(&self, rule: &Rule) -> Result<bool, AllocError>
+        requires whole { IsWhole self.now }
+        requires rule { RuleStands self.now.bank rule.now }
+        ensures { IfOk result (λ b. b ≡ are_without (state_of self.now).block.introduced (rule_terms (rule_at self.now.bank rule.now))) }
+    {
+        match &self.introduced {
+            None => Ok(true),
+            Some(introduced) => {
+                let inside = is_in_rule(&self.bank, introduced.function, rule)?;
+                Ok(!inside)
+            }
+        }
+    }
+
     /// Adds the line of a rule, where it is allowed.
     fn add_line(&mut self, rule: Rule) -> Result<Judged, AllocError>
         requires whole { IsWhole self.old }
         requires rule { RuleStands self.old.bank rule }
         ensures { IfOk result (λ judged. Leads (state_of self.old) (continued (rule_line (state_of self.old) (Some (rule_at self.old.bank rule)))) judged self.new) }
     {
+        if !self.is_older(&rule)? {
+            return Ok(Judged::NotAllowed);
+        }
         let allowed = self.log.allowed(&self.bank, &self.history, &rule)?;
         if allowed {
             self.add_allowed(rule)
@@ -45,6 +65,7 @@ impl Context {
     fn add_allowed(&mut self, rule: Rule) -> Result<Judged, AllocError>
         requires whole { IsWhole self.old }
         requires rule { RuleStands self.old.bank rule }
+        requires older { are_without (state_of self.old).block.introduced (rule_terms (rule_at self.old.bank rule)) ≡ true }
         requires allowed { IsSome (conclusion_at self.old.bank self.old.history self.old.log rule) }
         ensures { IfOk result (λ judged. Leads (state_of self.old) (continued (rule_line (state_of self.old) (Some (rule_at self.old.bank rule)))) judged self.new) }
     {

@@ -145,9 +145,12 @@ impl Context {
 
     /// May the block end in a shell, as far as its names do not tell?
     fn may_end_in_shell(&self) -> bool
-        ensures { result ≡ (is_empty (state_of self.now).block.cases && nat_le (length (state_of self.now).block.parts) 20 && are_short (state_of self.now).block.parts) }
+        ensures { result ≡ (is_none (state_of self.now).block.introduced && is_empty (state_of self.now).block.cases && nat_le (length (state_of self.now).block.parts) 20 && are_short (state_of self.now).block.parts) }
     {
-        self.cases.is_empty() && self.parts.len() <= MOST_PARTS && self.are_short()
+        self.introduced.is_none()
+            && self.cases.is_empty()
+            && self.parts.len() <= MOST_PARTS
+            && self.are_short()
     }
 
     /// Is an accessor of these parts in use?

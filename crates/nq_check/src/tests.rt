@@ -1,6 +1,7 @@
 ghost use Rattle.std.specs.Prelude.{◌≤◌};
 
 mod definitions;
+mod recursion;
 mod shells;
 mod sums;
 

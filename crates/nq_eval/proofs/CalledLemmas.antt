@@ -1,5 +1,5 @@
 -- What is called, and its arguments.
-use Rattle.std.proofs.Common.{◌≡◌, Bool, true, false, Option, List, [], ◌∷◌, ◌++◌, length, refl, sym, ap, ap₂, ◌∙◌}
+use Rattle.std.proofs.Common.{◌≡◌, Bool, true, false, Option, List, [], ◌∷◌, ◌++◌, refl, ap, ◌∙◌}
 use Rattle.std.specs.Prelude.{codes, bytes_eq}
 use Rattle.nq_logic.specs.Terms.{Name, Term, Function, Applied, applied, call}
 use Rattle.nq_logic.specs.Histories.{History}

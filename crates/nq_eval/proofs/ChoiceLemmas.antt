@@ -1,5 +1,5 @@
 -- The lines of an IF and the side that its test chooses.
-use Rattle.std.proofs.Common.{◌≡◌, ◌≤◌, ◌<◌, ◌+◌, ℕ, Bool, true, false, max, Option, Some, None, List, [], ◌∷◌, ◌++◌, refl, sym, ap, ◌∙◌, subst, lit≤, arith}
+use Rattle.std.proofs.Common.{◌≡◌, ◌≤◌, ◌<◌, ℕ, Bool, true, false, Option, Some, None, List, [], ◌∷◌, ◌++◌, refl, sym, ap, ◌∙◌, subst, lit≤, arith}
 use Rattle.std.specs.Prelude.{codes, if◌then◌else◌, All, not, is_some, Result, Ok, Err, OnOk, IfOk}
 use Rattle.nq_logic.specs.Terms.{Term, Substitution, Each, call}
 use Rattle.nq_logic.specs.Words.{false_term, not_term, equal_term, if_term}
@@ -36,12 +36,12 @@ use Rattle.nq_eval.specs.Rows.{row_at, row_instance, HasRow, ArePairsIn}
 use Rattle.nq_eval.specs.Choices.{for_choice, IsUsableChoice}
 use Rattle.nq_eval.specs.Heads.{IsChoice}
 use Rattle.nq_eval.specs.Gathered.{HasRoom}
-use Rattle.nq_eval.specs.Reducing.{MayCall, IsReducing}
+use Rattle.nq_eval.specs.Reducing.{IsReducing}
 use Rattle.nq_eval.specs.Sides.{side_if}
 use Rattle.nq_eval.specs.declared.reducing.Reduced.{Reduced}
 use Rattle.nq_eval.proofs.LineLemmas.{each_shallow, equation_shallow, without_same}
 use Rattle.nq_eval.proofs.ClosingLemmas.{usable_after, same_after}
-use Rattle.nq_eval.proofs.TruthLemmas.{small_depth, denial_depth}
+use Rattle.nq_eval.proofs.TruthLemmas.{denial_depth}
 use Rattle.nq_eval.proofs.EvaluationLemmas.{IsPart, test_part, first_part, second_part}
 
 -- ---- the pairs

@@ -1,9 +1,9 @@
 -- What a call of a defined function opens to.
-use Rattle.std.proofs.Common.{◌≡◌, ◌≤◌, ◌<◌, ◌+◌, ℕ, zero, suc, max, Bool, true, false, ◌&&◌, ◌||◌, ◌⊎◌, Option, Some, None, List, [], ◌∷◌, ◌++◌, map, length, take, get_or, refl, sym, ap, ap₂, ◌∙◌, subst, inl, inr, arith}
-use Rattle.std.specs.Prelude.{codes, All, bytes_eq, if◌then◌else◌, ◌==◌, not, is_some}
+use Rattle.std.proofs.Common.{◌≡◌, ◌≤◌, ◌<◌, ◌+◌, ℕ, suc, Bool, true, false, ◌&&◌, ◌||◌, ◌⊎◌, Option, Some, None, List, [], ◌∷◌, ◌++◌, map, length, take, get_or, refl, sym, ap, ap₂, ◌∙◌, subst, inl, inr, arith}
+use Rattle.std.specs.Prelude.{codes, All, bytes_eq, if◌then◌else◌, ◌==◌, not}
 use Rattle.std.proofs.lemmas.List.{length-map, length-take-le, take_more, map_push}
 use Rattle.std.proofs.lemmas.Bool.Decides.{Decides-eqb}
-use Rattle.nq_logic.specs.Terms.{Name, Term, Variable, Function, Applied, Substitution, IsAmong, Each, applied, call, value_at, substituted}
+use Rattle.nq_logic.specs.Terms.{Name, Term, Variable, Function, Substitution, Each, call, value_at, substituted}
 use Rattle.nq_logic.specs.Words.{equal_term}
 use Rattle.nq_logic.specs.Numerals.{number_of}
 use Rattle.nq_logic.specs.Sizes.{depth_of, tree_depth, greatest_depth}
@@ -13,7 +13,7 @@ use Rattle.nq_logic.specs.Names.{event_name, event_in, looked_up, has_name, are_
 use Rattle.nq_logic.specs.Admissible.{matched}
 use Rattle.nq_bank.specs.declared.node.TermId.{TermId}
 use Rattle.nq_bank.specs.declared.node.Sym.{Sym}
-use Rattle.nq_bank.specs.Content.{Content, IsNamed, Stands, text_at, term_at, terms_at}
+use Rattle.nq_bank.specs.Content.{Content, IsNamed, text_at, term_at, terms_at}
 use Rattle.nq_bank.specs.Shells.{texts_at}
 use Rattle.nq_bank.proofs.Numerals.{depth_of-number, depth_of-other}
 use Rattle.nq_bank.proofs.NodesLemmas.{All-head, All-tail}
@@ -23,15 +23,14 @@ use Rattle.nq_clause.specs.Substitution.{substitution_at, PairStands}
 use Rattle.nq_proof.specs.Clauses.{Clause, distinct}
 use Rattle.nq_proof.specs.Rules.{given, is_substitution, pair_terms}
 use Rattle.nq_proof.specs.Rules as rules_of
-use Rattle.nq_proof.specs.Rows.{GroundRow, ground_rows, row_found, definition_found, opening, opening_at, first_found, shell_found, axiom_clause}
+use Rattle.nq_proof.specs.Rows.{GroundRow, ground_rows, row_found, definition_found, opening, opening_at, first_found, shell_found}
 use Rattle.nq_proof.proofs.Tests.{names_same}
 use Rattle.nq_history.specs.declared.entry.Entry.{Entry}
 use Rattle.nq_history.specs.Events.{events_at}
-use Rattle.nq_kernel.specs.declared.work.Work.{Work}
-use Rattle.nq_kernel.specs.Over.{IsVariable, IsTermOf, pair_names}
+use Rattle.nq_kernel.specs.Over.{IsVariable, IsTermOf}
 use Rattle.nq_fragments.specs.Outcomes.{is_small, value_depth}
 use Rattle.nq_fragments.specs.Openings.{Opening as OpeningOfTexts, event_opening, opening_of, if_same}
-use Rattle.nq_eval.specs.Rows.{row_at, ArePairsIn}
+use Rattle.nq_eval.specs.Rows.{row_at}
 use Rattle.nq_eval.specs.Known.{IsUsableDefinition}
 use Rattle.nq_eval.specs.Opened.{IsDefinedBy, IsOtherName, IsOpening}
 use Rattle.nq_eval.specs.declared.openings.Opening.{Opening}

@@ -15,3 +15,5 @@ pub mod DefinedLemmas
 pub mod OpeningLemmas
 pub mod ProvedLemmas
 pub mod FormalsLemmas
+pub mod FrameLemmas
+pub mod WeightLemmas

@@ -4,7 +4,6 @@ use Rattle.std.specs.Prelude.{All, slice_set}
 use Rattle.std.proofs.lemmas.List.{take_all}
 use Rattle.nq_logic.specs.Terms.{Name, Term, Function, call}
 use Rattle.nq_logic.specs.Numerals.{number_of}
-use Rattle.nq_logic.specs.Values.{is_value}
 use Rattle.nq_logic.specs.Histories.{History}
 use Rattle.nq_logic.specs.Ground.{symbols_of}
 use Rattle.nq_bank.specs.declared.node.TermId.{TermId}
@@ -30,7 +29,7 @@ use Rattle.nq_eval.specs.Known.{IsKnown}
 use Rattle.nq_eval.specs.Gathered.{HasRoom, AreKnown, AreReached, values_of, values_at}
 use Rattle.nq_eval.specs.Reducing.{MayCall, IsReducing}
 use Rattle.nq_eval.proofs.CostLemmas.{arguments_done}
-use Rattle.nq_eval.proofs.ClosingLemmas.{small_value, same_after}
+use Rattle.nq_eval.proofs.ClosingLemmas.{same_after}
 use Rattle.nq_eval.proofs.EvaluationLemmas.{take_more, each_known_after, each_takes_after, terms_after, other_after, large_after}
 use Rattle.nq_eval.proofs.ReducingLemmas.{takes_call}
 

@@ -1,9 +1,9 @@
 -- The line of a call and what it opens to.
-use Rattle.std.proofs.Common.{◌≡◌, ◌≤◌, ◌<◌, ◌+◌, ℕ, max, Option, Some, None, List, [], ◌∷◌, length, get_or, refl, sym, ap, ◌∙◌, subst, arith}
-use Rattle.std.specs.Prelude.{All, is_some}
+use Rattle.std.proofs.Common.{◌≡◌, ◌≤◌, ◌+◌, Option, Some, List, [], ◌∷◌, length, get_or, refl, sym, ap, ◌∙◌, subst, arith}
+use Rattle.std.specs.Prelude.{is_some}
 use Rattle.std.specs.Option.{option_map}
 use Rattle.std.proofs.lemmas.List.{length-map}
-use Rattle.nq_logic.specs.Terms.{Term, Substitution, Each, substituted}
+use Rattle.nq_logic.specs.Terms.{Term, Substitution, Each}
 use Rattle.nq_logic.specs.Words.{equal_term}
 use Rattle.nq_logic.specs.Sizes.{depth_of, depth_limit}
 use Rattle.nq_logic.specs.Ground.{symbols_of}
@@ -24,11 +24,11 @@ use Rattle.nq_fragments.specs.Outcomes.{term_depth, value_depth}
 use Rattle.nq_fragments.specs.Openings.{body_of, opening_of}
 use Rattle.nq_eval.specs.Lines.{GrowsUncounted, IsUsable}
 use Rattle.nq_eval.specs.Rows.{row_at, row_instance, HasRow}
-use Rattle.nq_eval.specs.Opened.{Opens, IsOpening, IsOpenedTo, IsUnopened}
+use Rattle.nq_eval.specs.Opened.{Opens, IsOpening, IsOpenedTo}
 use Rattle.nq_eval.specs.declared.openings.Opening.{Opening}
 use Rattle.nq_eval.specs.declared.openings.Opened.{Opened}
 use Rattle.nq_eval.proofs.LineLemmas.{each_shallow, depth_equal}
-use Rattle.nq_eval.proofs.ClosingLemmas.{events_same, usable_after, same_after}
+use Rattle.nq_eval.proofs.ClosingLemmas.{events_same, same_after}
 use Rattle.nq_eval.proofs.SubstitutionLemmas.{instance_over, instance_depth}
 
 -- ---- the ids of a clause

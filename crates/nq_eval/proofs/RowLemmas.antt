@@ -1,16 +1,14 @@
 -- The lines of rows of the tables of axioms, and of their instances.
-use Rattle.std.proofs.Common.{◌≡◌, ◌≤◌, ◌<◌, ℕ, true, Option, Some, None, List, [], ◌∷◌, map, refl, sym, ap, ◌∙◌, subst, lit≤}
+use Rattle.std.proofs.Common.{◌≡◌, ◌≤◌, ℕ, Option, Some, None, List, [], ◌∷◌, map, refl, sym, ap, ◌∙◌, subst, lit≤}
 use Rattle.std.specs.Prelude.{codes, All, IfOk, OnErr, Result, Ok, Err, Vec, IsSome}
 use Rattle.std.specs.declared.alloc.Global.{Global}
-use Rattle.nq_logic.specs.Terms.{Term, Substitution, substituted, Each}
+use Rattle.nq_logic.specs.Terms.{Substitution, substituted}
 use Rattle.nq_logic.specs.Words.{false_term, not_term}
 use Rattle.nq_logic.specs.Numerals.{number_of}
 use Rattle.nq_logic.specs.Sizes.{depth_of, depth_limit, tree_depth}
-use Rattle.nq_logic.specs.Ground.{symbols_of}
-use Rattle.nq_logic.specs.Histories.{History}
 use Rattle.nq_bank.specs.declared.node.Sym.{Sym}
-use Rattle.nq_bank.specs.Content.{Content, Grows, Names, Stands, text_at}
-use Rattle.nq_bank.proofs.Growth.{Grows-refl, text_at-grown}
+use Rattle.nq_bank.specs.Content.{Content, Grows, Names, text_at}
+use Rattle.nq_bank.proofs.Growth.{Grows-refl}
 use Rattle.nq_clause.specs.declared.substitution.Pair.{Pair}
 use Rattle.nq_clause.specs.Substitution.{substitution_at, PairStands}
 use Rattle.nq_clause.proofs.SubstitutionLemmas.{substitution_at-grown, pairs_grown}
@@ -23,9 +21,9 @@ use Rattle.nq_history.proofs.HistoryLemmas.{events_at-grown}
 use Rattle.nq_kernel.specs.declared.work.Work.{Work}
 use Rattle.nq_kernel.specs.declared.rule.Rule.TheVariants.{AxiomRow, Instance}
 use Rattle.nq_kernel.specs.Meaning.{conclusion_at, clause_at}
-use Rattle.nq_kernel.specs.Over.{IsVariable, IsTermOf, RuleIsOver, RuleIsIn}
+use Rattle.nq_kernel.specs.Over.{RuleIsIn}
 use Rattle.nq_eval.specs.Lines.{IsShallow}
-use Rattle.nq_eval.specs.Rows.{row_at, row_instance, HasRow, ArePairsIn}
+use Rattle.nq_eval.specs.Rows.{row_at, row_instance, ArePairsIn}
 use Rattle.nq_eval.proofs.LineLemmas.{each_shallow}
 
 pub names_grow : {E : Type 0} (old new : Content) (r : Result Sym E) (text : List ℕ) → IfOk r (λ s. Names old new s text) → OnErr r (new ≡ old) → Grows old new

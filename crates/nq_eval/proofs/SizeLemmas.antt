@@ -1,14 +1,14 @@
 -- What COUNT of a value opens to.
-use Rattle.std.proofs.Common.{◌≡◌, ◌≤◌, ◌<◌, ◌+◌, ℕ, suc, max, Bool, true, false, ◌||◌, Option, Some, None, List, [], ◌∷◌, refl, sym, ap, ap₂, ◌∙◌, subst, lit≤, arith}
-use Rattle.std.specs.Prelude.{codes, All, if◌then◌else◌, ◌==◌, bytes_eq, is_some, nat_le, length, get_or}
-use Rattle.nq_logic.specs.Terms.{Name, Term, Variable, Function, Applied, Substitution, Each, IsTerm, call, substituted}
+use Rattle.std.proofs.Common.{◌≡◌, ◌≤◌, ◌<◌, ◌+◌, ℕ, max, true, false, ◌||◌, Option, Some, None, List, [], ◌∷◌, refl, sym, ap, ◌∙◌, subst, lit≤, arith}
+use Rattle.std.specs.Prelude.{codes, All, bytes_eq, is_some, length, get_or}
+use Rattle.nq_logic.specs.Terms.{Name, Term, Substitution, Each, call}
 use Rattle.nq_logic.specs.Words.{call1, call2, true_term, false_term, equal_term, add1_term, numeral}
-use Rattle.nq_logic.specs.Numerals.{number_of, is_numeral, numeral_limit}
+use Rattle.nq_logic.specs.Numerals.{number_of, numeral_limit}
 use Rattle.nq_logic.proofs.Numbers.{numerals_have_numbers_law}
-use Rattle.nq_logic.specs.Values.{is_value, is_tree_value}
-use Rattle.nq_logic.specs.Sizes.{depth_of, tree_depth, depth_limit}
-use Rattle.nq_logic.specs.Histories.{History, Shell, Definition, events_definitions, events_shells}
-use Rattle.nq_logic.specs.Ground.{symbols_of, ground_shells, ground_definitions, pairs, atoms, negatives}
+use Rattle.nq_logic.specs.Values.{is_tree_value}
+use Rattle.nq_logic.specs.Sizes.{depth_of, tree_depth}
+use Rattle.nq_logic.specs.Histories.{History, Shell, Definition, events_definitions}
+use Rattle.nq_logic.specs.Ground.{symbols_of, pairs, atoms, negatives}
 use Rattle.nq_logic.specs.Shells.{made, part_sizes, sum_of}
 use Rattle.nq_logic.proofs.Symbols.{ground_terms}
 use Rattle.nq_bank.specs.declared.node.TermId.{TermId}
@@ -28,17 +28,16 @@ use Rattle.nq_value.specs.Objects.{DenotesValue}
 use Rattle.nq_history.specs.declared.entry.Entry.{Entry}
 use Rattle.nq_history.specs.Events.{events_at}
 use Rattle.nq_kernel.specs.declared.work.Work.{Work}
-use Rattle.nq_kernel.specs.Over.{IsVariable, VariablesAre, IsTermOf, pair_names}
+use Rattle.nq_kernel.specs.Over.{IsVariable, IsTermOf, pair_names}
 use Rattle.nq_kernel.specs.Growing.{WorkStands}
-use Rattle.nq_fragments.specs.Outcomes.{is_small, is_shallow, value_depth}
+use Rattle.nq_fragments.specs.Outcomes.{is_small}
 use Rattle.nq_fragments.specs.Openings.{Opening as OpeningOfTexts, opening_of, count_opening}
 use Rattle.nq_eval.specs.Lines.{GrowsUncounted, IsUsable}
 use Rattle.nq_eval.specs.Rows.{row_at, ArePairsIn}
 use Rattle.nq_eval.specs.Opened.{IsOpening}
 use Rattle.nq_eval.specs.Measured.{for_part, for_parts, IsPartOfSmall, IsMadeOf, IsMadeOfTwo, IsCount, IsCountCall}
 use Rattle.nq_eval.specs.declared.openings.Opening.{Opening}
-use Rattle.nq_eval.proofs.LineLemmas.{usable_grown}
-use Rattle.nq_eval.proofs.ClosingLemmas.{value_over, small_value, usable_after, same_after}
+use Rattle.nq_eval.proofs.ClosingLemmas.{value_over, usable_after, same_after}
 use Rattle.nq_eval.proofs.TruthLemmas.{small_depth}
 use Rattle.nq_eval.proofs.CalledLemmas.{count_call}
 use Rattle.std.proofs.lemmas.List.{length-map}

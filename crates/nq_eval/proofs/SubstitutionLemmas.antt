@@ -1,7 +1,7 @@
 -- Terms with values in place of variables: what they are over, and how deep they are.
-use Rattle.std.proofs.Common.{◌≡◌, ◌≤◌, ◌+◌, ℕ, zero, suc, max, Bool, true, false, Option, Some, None, List, [], ◌∷◌, map, length, refl, sym, ap, ap₂, ◌∙◌, subst, inl, inr, arith}
+use Rattle.std.proofs.Common.{◌≡◌, ◌≤◌, ◌+◌, ℕ, zero, suc, Bool, true, false, Option, Some, None, List, [], ◌∷◌, map, refl, ap, subst, arith}
 use Rattle.std.specs.Prelude.{is_some, if◌then◌else◌, bytes_eq, codes}
-use Rattle.nq_logic.specs.Terms.{Name, Symbol, Term, Variable, Function, Applied, Substitution, Takes, IsTerm, Each, applied, call, value_at, substituted}
+use Rattle.nq_logic.specs.Terms.{Name, Symbol, Term, Variable, Function, Applied, Substitution, Takes, IsTerm, Each, applied, value_at, substituted}
 use Rattle.nq_logic.specs.Words.{numeral}
 use Rattle.nq_logic.specs.Numerals.{number_of, is_numeral}
 use Rattle.nq_logic.specs.Sizes.{depth_of, tree_depth}
@@ -10,7 +10,7 @@ use Rattle.nq_logic.specs.Ground.{symbols_of}
 use Rattle.nq_bank.proofs.Numerals.{numeral-number_of}
 use Rattle.nq_proof.specs.Rules.{pair_terms}
 use Rattle.nq_proof.proofs.TermTests.{substituted_over}
-use Rattle.nq_kernel.specs.Over.{IsVariable, VariablesAre, IsTermOf}
+use Rattle.nq_kernel.specs.Over.{VariablesAre, IsTermOf}
 
 -- ---- variables
 

@@ -1,6 +1,6 @@
 -- The line of a value that is true.
 use Rattle.std.proofs.Common.{◌≡◌, ◌≤◌, ◌+◌, ℕ, Bool, true, false, ◌&&◌, not, ap₂, max, Option, None, Some, List, [], ◌∷◌, ◌++◌, refl, sym, ap, ◌∙◌, subst, lit≤, arith}
-use Rattle.std.specs.Prelude.{codes, if◌then◌else◌, Vec, All, IsSome, is_some}
+use Rattle.std.specs.Prelude.{codes, if◌then◌else◌, Vec, All, is_some}
 use Rattle.std.specs.declared.alloc.Global.{Global}
 use Rattle.std.proofs.lemmas.Bool.{leb-true}
 use Rattle.nq_logic.specs.Terms.{Term, Substitution, Each}
@@ -32,13 +32,13 @@ use Rattle.nq_kernel.specs.declared.rule.Rule.TheVariants.{Cut, Replace}
 use Rattle.nq_kernel.specs.Meaning.{conclusion_at, clause_at}
 use Rattle.nq_kernel.specs.Over.{IsVariable, IsTermOf, pair_names}
 use Rattle.nq_kernel.specs.Growing.{WorkStands, LineHolds}
-use Rattle.nq_fragments.specs.Outcomes.{is_small, is_shallow, term_depth}
-use Rattle.nq_eval.specs.Lines.{IsShallow, GrowsUncounted, IsUsable}
+use Rattle.nq_fragments.specs.Outcomes.{is_small, term_depth}
+use Rattle.nq_eval.specs.Lines.{GrowsUncounted, IsUsable}
 use Rattle.nq_eval.specs.Rows.{row_at, row_instance, HasRow, ArePairsIn}
 use Rattle.nq_eval.specs.Truths.{IsTruth, IsFalsity, IsDenied}
 use Rattle.nq_eval.specs.declared.truths.Denied.{Denied}
 use Rattle.nq_eval.proofs.LineLemmas.{each_shallow, depth_equal, equation_over, without_same}
-use Rattle.nq_eval.proofs.ClosingLemmas.{value_over, small_value, small_shallow, small_usable, usable_after, same_after}
+use Rattle.nq_eval.proofs.ClosingLemmas.{value_over, small_shallow, small_usable, usable_after, same_after}
 
 false_small : is_small false_term ≡ true
 unfolding number_of is_tree_value tree_depth

@@ -1,8 +1,7 @@
 -- Choices between two terms, and the pairs by which the rows of IF speak of them.
-use Rattle.std.specs.Prelude.{◌≡◌, ◌≤◌, ℕ, List, [], ◌∷◌, codes}
+use Rattle.std.specs.Prelude.{◌≡◌, List, [], ◌∷◌, codes}
 use Rattle.nq_logic.specs.Terms.{Term, Substitution}
 use Rattle.nq_logic.specs.Words.{if_term}
-use Rattle.nq_logic.specs.Sizes.{depth_of}
 use Rattle.nq_bank.specs.declared.node.TermId.{TermId}
 use Rattle.nq_bank.specs.Content.{Content, term_at}
 use Rattle.nq_history.specs.declared.entry.Entry.{Entry}

@@ -1,5 +1,5 @@
 -- What is known of terms that were evaluated.
-use Rattle.std.specs.Prelude.{◌≡◌, ◌≤◌, ℕ, nat_eq, true, List, Some}
+use Rattle.std.specs.Prelude.{◌≡◌, ◌≤◌, ◌-◌, ℕ, nat_eq, true, List, Some}
 use Rattle.std.specs.declared.hash.FoldHasher.{FoldHasher}
 use Rattle.std.specs.declared.hash.BuildHasherDefault.{BuildHasherDefault}
 use Rattle.std.specs.HashMap.{get, HashMap}
@@ -78,6 +78,12 @@ abbrev pub IsFoundOn : List Entry → Work → TermId → ℕ → ℕ → Found 
 IsFoundOn history work u n left (found.Value k) = IsCallReached history work u n left k
 IsFoundOn history work u n left (found.Blocked w) = IsBlocked work w (call_outcome history work u n left)
 IsFoundOn history work u n left found.Fuel = call_outcome history work u n left ≡ OutOfFuel
+
+-- of so many calls these are left once it was found
+abbrev pub left_on : ℕ → Found → ℕ
+left_on left (found.Value k) = left - k.calls
+left_on left (found.Blocked u) = 0
+left_on left found.Fuel = 0
 
 -- the greatest depth of a body
 abbrev pub body_depth : ℕ

@@ -12,3 +12,6 @@ pub mod Truths
 pub mod Choices
 pub mod Measured
 pub mod Objects
+pub mod Frames
+pub mod Weights
+pub mod Runs

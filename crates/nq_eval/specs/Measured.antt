@@ -1,9 +1,8 @@
 -- Calls of COUNT on values.
-use Rattle.std.specs.Prelude.{◌≡◌, ◌≤◌, ℕ, List, [], ◌∷◌, All, None, codes, true}
+use Rattle.std.specs.Prelude.{◌≡◌, ◌≤◌, List, [], ◌∷◌, All, None, codes, true}
 use Rattle.nq_logic.specs.Terms.{Name, Term, Function, Applied, Substitution, call}
 use Rattle.nq_logic.specs.Words.{call1, call2}
 use Rattle.nq_logic.specs.Sizes.{depth_of}
-use Rattle.nq_logic.specs.Values.{is_value}
 use Rattle.nq_proof.specs.Values.{value_of}
 use Rattle.nq_bank.specs.declared.node.TermId.{TermId}
 use Rattle.nq_bank.specs.Content.{Content, Stands, term_at, terms_at}

@@ -3,7 +3,6 @@ use Rattle.std.specs.Prelude.{◌≡◌, ◌<◌}
 use Rattle.nq_logic.specs.Terms.{Term}
 use Rattle.nq_logic.specs.Words.{call1, call2, true_term, false_term, numeral}
 use Rattle.nq_logic.specs.Numerals.{numeral_limit}
-use Rattle.nq_bank.specs.declared.node.TermId.{TermId}
 use Rattle.nq_bank.specs.Content.{Content, term_at}
 use Rattle.nq_value.specs.Objects.{DenotesValue}
 use Rattle.nq_eval.specs.declared.object.Object.{Object}

@@ -1,5 +1,5 @@
 //! What is found for a term, from what is found for its parts.
-ghost use Rattle.std.specs.Prelude.{◌≡◌, ◌≤◌, ◌<◌, ◌-◌, ℕ, length, true, false, None, Some, All, IfOk};
+ghost use Rattle.std.specs.Prelude.{◌≡◌, ◌≤◌, ◌<◌, ◌+◌, ◌-◌, ℕ, length, true, false, None, Some, All, IfOk};
 ghost use Rattle.nq_logic.specs.Sizes.{depth_of};
 ghost use Rattle.nq_logic.specs.Terms.{call};
 ghost use Rattle.nq_logic.specs.Words.{false_term};
@@ -15,7 +15,7 @@ ghost use Rattle.nq_kernel.specs.Growing.{WorkStands};
 ghost use Rattle.nq_fragments.specs.Outcomes.{is_small};
 ghost use Rattle.nq_eval.specs.Lines.{GrowsUncounted, IsUsable, Equates};
 ghost use Rattle.nq_eval.specs.Heads.{IsChoice, IsOtherCall};
-ghost use Rattle.nq_eval.specs.Known.{IsKnown, IsReached, IsFoundFor, IsFoundOn};
+ghost use Rattle.nq_eval.specs.Known.{IsKnown, IsReached, IsFoundFor, IsFoundOn, left_on};
 ghost use Rattle.nq_eval.specs.Gathered.{HasRoom, AreReached, IsValuesCall, IsReduced};
 ghost use Rattle.nq_eval.specs.Sides.{side_at};
 
@@ -82,6 +82,7 @@ pub fn close_choice(
     requires test { IsReached history.now work.old parts.test nesting calls test }
     requires known { IsReached history.now work.old side nesting (calls - test.calls) known }
     ensures known { IfOk result (λ known. IsReached history.now work.new t nesting calls known) }
+    ensures calls { IfOk result (λ closed. closed.calls ≡ test.calls + known.calls) }
     ensures grows { GrowsUncounted history.now work.old work.new }
 {
     let line = choice_line(work, history, t, parts, side, test)?;
@@ -188,6 +189,7 @@ pub fn close_call(
     requires reduced { IsReduced history.now work.old t nesting calls used deepest call.now }
     requires found { IsFoundOn history.now work.old call.now.term nesting (calls - used) found }
     ensures found { IfOk result (λ found. IsFoundFor history.now work.new t nesting calls found) }
+    ensures left { IfOk result (λ closed. left_on calls closed ≡ left_on (calls - used) found) }
     ensures grows { GrowsUncounted history.now work.old work.new }
 {
     match found {

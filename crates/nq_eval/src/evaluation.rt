@@ -1,35 +1,218 @@
 //! Values of terms, where openings may nest so far and so many calls are left.
-ghost use Rattle.std.specs.Prelude.{◌≡◌, ◌<◌, ◌≤◌, true, false, None, All, IfOk, OnOk};
-ghost use Rattle.nq_logic.specs.Sizes.{depth_of};
-ghost use Rattle.nq_bank.specs.Content.{term_at, terms_at};
+//! Openings nest hundreds of times over bodies that are thousands of levels deep, so what waits for a value stands in a list.
+ghost use Rattle.std.specs.Prelude.{◌≡◌, ◌<◌, ◌≤◌, ◌+◌, ◌↔◌, false, IfOk, OnOk, MatchOption, IsTrue};
+ghost use Rattle.nq_bank.specs.Content.{term_at};
 ghost use Rattle.nq_fragments.specs.Outcomes.{is_small};
 ghost use Rattle.nq_eval.specs.Lines.{GrowsUncounted, IsUsable};
-ghost use Rattle.nq_eval.specs.Known.{IsKnown, IsReached, IsFoundFor, IsFoundOn, Knows};
-ghost use Rattle.nq_eval.specs.Gathered.{CanEvaluate, HasRoom, IsGathered, AreReached, IsValuesCall};
-ghost use Rattle.nq_eval.specs.Heads.{IsChoice, IsOtherCall};
-ghost use Rattle.nq_eval.specs.Opened.{IsOpenedTo};
-ghost use Rattle.nq_bank.specs.Parts.{parts_of};
-ghost use Rattle.nq_proof.specs.Values.{value_of};
-ghost use Rattle.nq_value.specs.Passing.{passes};
+ghost use Rattle.nq_eval.specs.Known.{IsFoundFor, Knows};
+ghost use Rattle.nq_eval.specs.Gathered.{CanEvaluate};
+ghost use Rattle.nq_eval.specs.Frames.{AreWaiting, IsWaiting, IsStep, IsFoundAt, child_of};
+ghost use Rattle.nq_eval.specs.Weights.{term_weight, wait_weight, frames_weight, turn_left, left_after, step_weight, step_left};
+ghost use Rattle.nq_eval.specs.Runs.{IsRun, run_weight, rests};
 
-use crate::closing::{
-    arguments_of, close_call, close_choice, row_of, row_value, side_of, value_without_opening,
-};
 use crate::found::{Found, Known, found_known, is_small_value, keep, known_for, own_value};
-use crate::gathered::{Gathered, Values, ValuesCall};
-use crate::heads::{Head, head_of};
-use crate::openings::{Opened, close_opening, open_call};
-use crate::reducing::call_of_values;
-use nq_bank::{Sym, TermId};
+use crate::frames::{Frame, Request, Step, Turn, turn_of};
+use crate::resuming::resume;
+use crate::steps::begin;
+use nq_bank::TermId;
 use nq_history::History;
 use nq_kernel::Work;
-use nq_rule::Branches;
-use nq_value::ValueAnswer;
 use std::alloc::AllocError;
 use std::collections::HashMap;
 
+/// The evaluation of a term.
+#[derive(Drop)]
+pub struct Run {
+    /// The term.
+    pub whole: Request,
+    /// What waits for a value, each for the value of the next one.
+    pub frames: Vec<Frame>,
+    /// What comes next.
+    pub turn: Turn,
+}
+
+/// What is known of a term before it is looked at.
+fn known_already(
+    work: &Work,
+    history: &History,
+    memo: &HashMap<u64, Known>,
+    request: Request,
+) -> Option<Found>
+    requires knows { Knows history.now work.now memo.now }
+    requires term { IsUsable work.now.bank history.now request.term }
+    ensures { MatchOption result (is_small (term_at work.now.bank request.term) ≡ false) (IsFoundAt history.now work.now request) }
+{
+    if is_small_value(&work.bank, request.term) {
+        return Some(own_value(work, history, request.term, request.nesting, request.calls));
+    }
+    let known = known_for(memo, request.term)?;
+    Some(found_known(
+        work,
+        history,
+        request.term,
+        known,
+        request.nesting,
+        request.calls,
+    ))
+}
+
+/// Keeps the value that was found for a term.
+fn keep_found(
+    work: &Work,
+    history: &History,
+    memo: &mut HashMap<u64, Known>,
+    request: Request,
+    found: Found,
+) -> Result<(), AllocError>
+    requires knows { Knows history.now work.now memo.old }
+    requires term { IsUsable work.now.bank history.now request.term }
+    requires found { IsFoundAt history.now work.now request found }
+    ensures { OnOk result (Knows history.now work.now memo.new) }
+{
+    match found {
+        Found::Value(known) => keep(memo, request.term, known),
+        Found::Blocked(_) => Ok(()),
+        Found::Fuel => Ok(()),
+    }
+}
+
+/// Takes what came of a term at hand.
+fn take_step(
+    work: &Work,
+    history: &History,
+    memo: &mut HashMap<u64, Known>,
+    run: &mut Run,
+    request: Request,
+    step: Step,
+) -> Result<(), AllocError>
+    requires can { CanEvaluate history.now work.now memo.old }
+    requires waiting { AreWaiting history.now work.now run.old.frames.items run.old.whole request }
+    requires term { IsUsable work.now.bank history.now request.term }
+    requires step { IsStep history.now work.now request step }
+    ensures run { OnOk result (IsRun history.now work.now memo.new run.new) }
+    ensures whole { run.new.whole ≡ run.old.whole }
+    ensures lighter { OnOk result (run_weight work.now.bank run.new ≡ step_weight work.now.bank step + frames_weight work.now.bank run.old.frames.items) }
+    ensures left { OnOk result (turn_left run.new.turn ≡ step_left request step) }
+{
+    match step {
+        Step::Found(found) => {
+            keep_found(work, history, memo, request, found)?;
+            run.turn = Turn::Give(request, found);
+        }
+        Step::Wait(frame) => {
+            run.turn = turn_of(&frame);
+            run.frames.push(frame)?;
+        }
+    }
+    Ok(())
+}
+
+/// Looks at a term.
+fn look(
+    work: &mut Work,
+    history: &History,
+    memo: &mut HashMap<u64, Known>,
+    run: &mut Run,
+    request: Request,
+) -> Result<(), AllocError>
+    requires can { CanEvaluate history.now work.old memo.old }
+    requires waiting { AreWaiting history.now work.old run.old.frames.items run.old.whole request }
+    requires term { IsUsable work.old.bank history.now request.term }
+    ensures run { OnOk result (IsRun history.now work.new memo.new run.new) }
+    ensures whole { run.new.whole ≡ run.old.whole }
+    ensures lighter { OnOk result (run_weight work.new.bank run.new < term_weight (term_at work.old.bank request.term) + frames_weight work.old.bank run.old.frames.items) }
+    ensures left { OnOk result (turn_left run.new.turn ≤ request.calls) }
+    ensures grows { GrowsUncounted history.now work.old work.new }
+{
+    if let Some(found) = known_already(work, history, memo, request) {
+        run.turn = Turn::Give(request, found);
+        return Ok(());
+    }
+    let step = begin(work, history, request)?;
+    take_step(work, history, memo, run, request, step)
+}
+
+/// Gives what was found for a term to what waits for it.
+fn give(
+    work: &mut Work,
+    history: &History,
+    memo: &mut HashMap<u64, Known>,
+    run: &mut Run,
+    frame: Frame,
+    found: Found,
+) -> Result<(), AllocError>
+    requires can { CanEvaluate history.now work.old memo.old }
+    requires waiting { AreWaiting history.now work.old run.old.frames.items run.old.whole frame.request }
+    requires frame { IsWaiting history.now work.old frame }
+    requires found { IsFoundAt history.now work.old (child_of frame) found }
+    ensures run { OnOk result (IsRun history.now work.new memo.new run.new) }
+    ensures whole { run.new.whole ≡ run.old.whole }
+    ensures lighter { OnOk result (run_weight work.new.bank run.new < wait_weight work.old.bank frame.wait + 1 + frames_weight work.old.bank run.old.frames.items) }
+    ensures left { OnOk result (turn_left run.new.turn ≤ left_after (child_of frame) found) }
+    ensures grows { GrowsUncounted history.now work.old work.new }
+{
+    let request = frame.request;
+    let step = resume(work, history, frame, found)?;
+    take_step(work, history, memo, run, request, step)
+}
+
+/// Takes the next turn.
+fn advance(
+    work: &mut Work,
+    history: &History,
+    memo: &mut HashMap<u64, Known>,
+    run: &mut Run,
+) -> Result<(), AllocError>
+    requires run { IsRun history.now work.old memo.old run.old }
+    requires goes_on { rests run.old.turn run.old.frames.items → ⊥ }
+    ensures run { OnOk result (IsRun history.now work.new memo.new run.new) }
+    ensures whole { run.new.whole ≡ run.old.whole }
+    ensures lighter { OnOk result (run_weight work.new.bank run.new < run_weight work.old.bank run.old) }
+    ensures left { OnOk result (turn_left run.new.turn ≤ turn_left run.old.turn) }
+    ensures grows { GrowsUncounted history.now work.old work.new }
+{
+    match run.turn {
+        Turn::Enter(_) => unreachable!(),
+        Turn::Look(request) => look(work, history, memo, run, request),
+        Turn::Give(_, found) => match run.frames.pop() {
+            Some(frame) => give(work, history, memo, run, frame, found),
+            None => unreachable!(),
+        },
+    }
+}
+
+/// Is there no turn to be taken, but that a call was opened?
+fn rests(run: &Run) -> bool
+    ensures { IsTrue result ↔ rests run.now.turn run.now.frames.items }
+{
+    match run.turn {
+        Turn::Enter(_) => true,
+        Turn::Look(_) => false,
+        Turn::Give(_, _) => run.frames.is_empty(),
+    }
+}
+
+/// Takes turns until a call is opened, or all is found.
+fn go_on(
+    work: &mut Work,
+    history: &History,
+    memo: &mut HashMap<u64, Known>,
+    run: &mut Run,
+) -> Result<(), AllocError>
+    requires run { IsRun history.now work.old memo.old run.old }
+    ensures run { OnOk result (IsRun history.now work.new memo.new run.new) }
+    ensures whole { run.new.whole ≡ run.old.whole }
+    ensures rests { OnOk result (rests run.new.turn run.new.frames.items) }
+    ensures left { OnOk result (turn_left run.new.turn ≤ turn_left run.old.turn) }
+    ensures grows { GrowsUncounted history.now work.old work.new }
+{
+    while !rests(run) {
+        advance(work, history, memo, run)?;
+    }
+    Ok(())
+}
+
 /// The value of a term.
-#[cycle(evaluation)]
 pub fn value_of(
     work: &mut Work,
     history: &History,
@@ -44,311 +227,23 @@ pub fn value_of(
     ensures memo { OnOk result (Knows history.now work.new memo.new) }
     ensures grows { GrowsUncounted history.now work.old work.new }
 {
-    if is_small_value(&work.bank, t) {
-        return Ok(own_value(work, history, t, nesting, calls));
+    let whole = Request {
+        term: t,
+        nesting,
+        calls,
+    };
+    let mut run = Run {
+        whole,
+        frames: Vec::new(work.bank.alloc()),
+        turn: Turn::Enter(whole),
+    };
+    while let Turn::Enter(request) = run.turn {
+        run.turn = Turn::Look(request);
+        go_on(work, history, memo, &mut run)?;
     }
-    if let Some(known) = known_for(memo, t) {
-        return Ok(found_known(work, history, t, known, nesting, calls));
+    match run.turn {
+        Turn::Enter(_) => unreachable!(),
+        Turn::Look(_) => unreachable!(),
+        Turn::Give(_, found) => Ok(found),
     }
-    value_to_keep(work, history, memo, t, nesting, calls)
-}
-
-/// The value of a term, which is kept.
-#[cycle(evaluation)]
-fn value_to_keep(
-    work: &mut Work,
-    history: &History,
-    memo: &mut HashMap<u64, Known>,
-    t: TermId,
-    nesting: u32,
-    calls: u32,
-) -> Result<Found, AllocError>
-    requires can { CanEvaluate history.now work.old memo.old }
-    requires term { IsUsable work.old.bank history.now t }
-    requires large { is_small (term_at work.old.bank t) ≡ false }
-    ensures found { IfOk result (λ found. IsFoundFor history.now work.new t nesting calls found) }
-    ensures memo { OnOk result (Knows history.now work.new memo.new) }
-    ensures grows { GrowsUncounted history.now work.old work.new }
-{
-    match value_anew(work, history, memo, t, nesting, calls)? {
-        Found::Value(known) => {
-            keep(memo, t, known)?;
-            Ok(Found::Value(known))
-        }
-        Found::Blocked(u) => Ok(Found::Blocked(u)),
-        Found::Fuel => Ok(Found::Fuel),
-    }
-}
-
-/// The value of a term that is not known.
-#[cycle(evaluation)]
-fn value_anew(
-    work: &mut Work,
-    history: &History,
-    memo: &mut HashMap<u64, Known>,
-    t: TermId,
-    nesting: u32,
-    calls: u32,
-) -> Result<Found, AllocError>
-    requires can { CanEvaluate history.now work.old memo.old }
-    requires term { IsUsable work.old.bank history.now t }
-    requires large { is_small (term_at work.old.bank t) ≡ false }
-    ensures found { IfOk result (λ found. IsFoundFor history.now work.new t nesting calls found) }
-    ensures memo { OnOk result (Knows history.now work.new memo.new) }
-    ensures grows { GrowsUncounted history.now work.old work.new }
-{
-    match head_of(&work.bank, t) {
-        Head::Variable => Ok(Found::Blocked(t)),
-        Head::Choice(parts) => value_of_choice(work, history, memo, t, parts, nesting, calls),
-        Head::Call(f) => value_of_call(work, history, memo, t, f, nesting, calls),
-    }
-}
-
-/// The values of arguments of a term.
-#[cycle(evaluation)]
-fn gather(
-    work: &mut Work,
-    history: &History,
-    memo: &mut HashMap<u64, Known>,
-    t: TermId,
-    arguments: &[TermId],
-    nesting: u32,
-    calls: u32,
-) -> Result<Gathered, AllocError>
-    requires can { CanEvaluate history.now work.old memo.old }
-    requires term { IsUsable work.old.bank history.now t }
-    requires arguments { All (HasRoom work.old.bank history.now) arguments.now }
-    requires within { All (λ a. depth_of (term_at work.old.bank a) < depth_of (term_at work.old.bank t)) arguments.now }
-    ensures gathered { IfOk result (λ gathered. IsGathered history.now work.new arguments.now nesting calls gathered) }
-    ensures memo { OnOk result (Knows history.now work.new memo.new) }
-    ensures grows { GrowsUncounted history.now work.old work.new }
-{
-    let mut known = Vec::new(work.bank.alloc());
-    let mut used: u32 = 0;
-    let mut deepest: u32 = 0;
-    for a in arguments {
-        match value_of(work, history, memo, *a, nesting, calls - used)? {
-            Found::Value(k) => {
-                known.push(k)?;
-                used += k.calls;
-                deepest = deepest.max(k.nesting);
-            }
-            Found::Blocked(u) => return Ok(Gathered::Blocked(u)),
-            Found::Fuel => return Ok(Gathered::Fuel),
-        }
-    }
-    Ok(Gathered::Values(Values {
-        known,
-        calls: used,
-        nesting: deepest,
-    }))
-}
-
-/// The value of an IF.
-#[cycle(evaluation)]
-fn value_of_choice(
-    work: &mut Work,
-    history: &History,
-    memo: &mut HashMap<u64, Known>,
-    t: TermId,
-    parts: Branches,
-    nesting: u32,
-    calls: u32,
-) -> Result<Found, AllocError>
-    requires can { CanEvaluate history.now work.old memo.old }
-    requires term { IsUsable work.old.bank history.now t }
-    requires large { is_small (term_at work.old.bank t) ≡ false }
-    requires head { IsChoice work.old.bank t parts }
-    ensures found { IfOk result (λ found. IsFoundFor history.now work.new t nesting calls found) }
-    ensures memo { OnOk result (Knows history.now work.new memo.new) }
-    ensures grows { GrowsUncounted history.now work.old work.new }
-{
-    match value_of(work, history, memo, parts.test, nesting, calls)? {
-        Found::Value(test) => { value_of_side(work, history, memo, t, parts, test, nesting, calls) }
-        Found::Blocked(u) => Ok(Found::Blocked(u)),
-        Found::Fuel => Ok(Found::Fuel),
-    }
-}
-
-/// The value of an IF of which the test has a value.
-#[cycle(evaluation)]
-fn value_of_side(
-    work: &mut Work,
-    history: &History,
-    memo: &mut HashMap<u64, Known>,
-    t: TermId,
-    parts: Branches,
-    test: Known,
-    nesting: u32,
-    calls: u32,
-) -> Result<Found, AllocError>
-    requires can { CanEvaluate history.now work.old memo.old }
-    requires term { IsUsable work.old.bank history.now t }
-    requires large { is_small (term_at work.old.bank t) ≡ false }
-    requires head { IsChoice work.old.bank t parts }
-    requires test { IsReached history.now work.old parts.test nesting calls test }
-    ensures found { IfOk result (λ found. IsFoundFor history.now work.new t nesting calls found) }
-    ensures memo { OnOk result (Knows history.now work.new memo.new) }
-    ensures grows { GrowsUncounted history.now work.old work.new }
-{
-    let side = side_of(&work.bank, parts, test.value);
-    match value_of(work, history, memo, side, nesting, calls - test.calls)? {
-        Found::Value(known) => {
-            let known = close_choice(work, history, t, parts, side, test, known, nesting, calls)?;
-            Ok(Found::Value(known))
-        }
-        Found::Blocked(u) => Ok(Found::Blocked(u)),
-        Found::Fuel => Ok(Found::Fuel),
-    }
-}
-
-/// The value of another call.
-#[cycle(evaluation)]
-fn value_of_call(
-    work: &mut Work,
-    history: &History,
-    memo: &mut HashMap<u64, Known>,
-    t: TermId,
-    f: Sym,
-    nesting: u32,
-    calls: u32,
-) -> Result<Found, AllocError>
-    requires can { CanEvaluate history.now work.old memo.old }
-    requires term { IsUsable work.old.bank history.now t }
-    requires large { is_small (term_at work.old.bank t) ≡ false }
-    requires head { IsOtherCall work.old.bank t f }
-    ensures found { IfOk result (λ found. IsFoundFor history.now work.new t nesting calls found) }
-    ensures memo { OnOk result (Knows history.now work.new memo.new) }
-    ensures grows { GrowsUncounted history.now work.old work.new }
-{
-    let arguments = arguments_of(work, history, t, f)?;
-    match gather(work, history, memo, t, arguments.as_slice(), nesting, calls)? {
-        Gathered::Values(values) => {
-            value_of_gathered(
-                work,
-                history,
-                memo,
-                t,
-                f,
-                arguments.as_slice(),
-                values,
-                nesting,
-                calls,
-            )
-        }
-        Gathered::Blocked(u) => Ok(Found::Blocked(u)),
-        Gathered::Fuel => Ok(Found::Fuel),
-    }
-}
-
-/// The value of a call of which the arguments have values.
-#[cycle(evaluation)]
-fn value_of_gathered(
-    work: &mut Work,
-    history: &History,
-    memo: &mut HashMap<u64, Known>,
-    t: TermId,
-    f: Sym,
-    arguments: &[TermId],
-    values: Values,
-    nesting: u32,
-    calls: u32,
-) -> Result<Found, AllocError>
-    requires can { CanEvaluate history.now work.old memo.old }
-    requires term { IsUsable work.old.bank history.now t }
-    requires large { is_small (term_at work.old.bank t) ≡ false }
-    requires head { IsOtherCall work.old.bank t f }
-    requires arguments { terms_at work.old.bank arguments.now ≡ parts_of (term_at work.old.bank t) }
-    requires room { All (HasRoom work.old.bank history.now) arguments.now }
-    requires values { AreReached history.now work.old arguments.now nesting calls values }
-    ensures found { IfOk result (λ found. IsFoundFor history.now work.new t nesting calls found) }
-    ensures memo { OnOk result (Knows history.now work.new memo.new) }
-    ensures grows { GrowsUncounted history.now work.old work.new }
-{
-    let used = values.calls;
-    let deepest = values.nesting;
-    let call = call_of_values(work, history, t, f, arguments, &values, nesting, calls)?;
-    let found = value_of_values(work, history, memo, f, &call, nesting, calls - used)?;
-    close_call(
-        work, history, t, &call, used, deepest, found, nesting, calls,
-    )
-}
-
-/// The value of a call on values.
-#[cycle(evaluation)]
-fn value_of_values(
-    work: &mut Work,
-    history: &History,
-    memo: &mut HashMap<u64, Known>,
-    f: Sym,
-    call: &ValuesCall,
-    nesting: u32,
-    calls: u32,
-) -> Result<Found, AllocError>
-    requires can { CanEvaluate history.now work.old memo.old }
-    requires call { IsValuesCall history.now work.old f call.now }
-    ensures found { IfOk result (λ found. IsFoundOn history.now work.new call.now.term nesting calls found) }
-    ensures memo { OnOk result (Knows history.now work.new memo.new) }
-    ensures grows { GrowsUncounted history.now work.old work.new }
-{
-    match row_of(work, history, f, call)? {
-        ValueAnswer::Value(v) => row_value(work, history, call.term, v),
-        ValueAnswer::Passes => Ok(value_without_opening(work, history, call.term)),
-        ValueAnswer::NotBuiltIn => {
-            value_without_row(work, history, memo, f, call, nesting, calls)
-        }
-    }
-}
-
-/// The value of a call on values that has no row.
-#[cycle(evaluation)]
-fn value_without_row(
-    work: &mut Work,
-    history: &History,
-    memo: &mut HashMap<u64, Known>,
-    f: Sym,
-    call: &ValuesCall,
-    nesting: u32,
-    calls: u32,
-) -> Result<Found, AllocError>
-    requires can { CanEvaluate history.now work.old memo.old }
-    requires call { IsValuesCall history.now work.old f call.now }
-    requires row { value_of (term_at work.old.bank call.now.term) ≡ None }
-    requires passes { passes (term_at work.old.bank call.now.term) ≡ false }
-    ensures found { IfOk result (λ found. IsFoundOn history.now work.new call.now.term nesting calls found) }
-    ensures memo { OnOk result (Knows history.now work.new memo.new) }
-    ensures grows { GrowsUncounted history.now work.old work.new }
-{
-    if work.bank.is_value(call.term) {
-        return Ok(value_without_opening(work, history, call.term));
-    }
-    match open_call(work, history, f, call)? {
-        Some(opened) => { value_of_opened(work, history, memo, call.term, opened, nesting, calls) }
-        None => Ok(Found::Blocked(call.term)),
-    }
-}
-
-/// The value of a call on values that was opened.
-#[cycle(evaluation)]
-fn value_of_opened(
-    work: &mut Work,
-    history: &History,
-    memo: &mut HashMap<u64, Known>,
-    u: TermId,
-    opened: Opened,
-    nesting: u32,
-    calls: u32,
-) -> Result<Found, AllocError>
-    requires can { CanEvaluate history.now work.old memo.old }
-    requires term { IsUsable work.old.bank history.now u }
-    requires opened { IsOpenedTo history.now work.old u opened }
-    ensures found { IfOk result (λ found. IsFoundOn history.now work.new u nesting calls found) }
-    ensures memo { OnOk result (Knows history.now work.new memo.new) }
-    ensures grows { GrowsUncounted history.now work.old work.new }
-{
-    if nesting == 0 || calls == 0 {
-        return Ok(Found::Fuel);
-    }
-    let found = value_of(work, history, memo, opened.body, nesting - 1, calls - 1)?;
-    close_opening(work, history, u, opened, found, nesting, calls)
 }

@@ -26,6 +26,11 @@ mod openings;
 mod reducing;
 mod sizes;
 
+// what waits for a value, and what comes of it
+mod frames;
+mod resuming;
+mod steps;
+
 // values of terms
 mod answers;
 mod evaluation;

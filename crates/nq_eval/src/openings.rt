@@ -9,7 +9,7 @@ ghost use Rattle.nq_clause.specs.Substitution.{substitution_at, PairStands};
 ghost use Rattle.nq_history.specs.Events.{events_at, HistoryStands};
 ghost use Rattle.nq_kernel.specs.Growing.{WorkStands, LineHolds};
 ghost use Rattle.nq_eval.specs.Lines.{GrowsUncounted, IsUsable};
-ghost use Rattle.nq_eval.specs.Known.{IsFoundFor, IsFoundOn, HasUsableDefinitions};
+ghost use Rattle.nq_eval.specs.Known.{IsFoundFor, IsFoundOn, HasUsableDefinitions, left_on};
 ghost use Rattle.nq_eval.specs.Gathered.{IsValuesCall};
 ghost use Rattle.nq_eval.specs.Opened.{Opens, IsDefinedBy, IsOpening, IsOpeningLine, IsOtherName, IsUnopened, IsOpenedTo};
 ghost use Rattle.nq_logic.specs.Words.{equal_term};
@@ -64,6 +64,7 @@ pub fn close_opening(
     requires some_calls { 0 < calls }
     requires found { IsFoundFor history.now work.old opened.body (nesting - 1) (calls - 1) found }
     ensures found { IfOk result (λ found. IsFoundOn history.now work.new u nesting calls found) }
+    ensures left { IfOk result (λ closed. left_on calls closed ≡ left_on (calls - 1) found) }
     ensures grows { GrowsUncounted history.now work.old work.new }
 {
     match found {

@@ -14,8 +14,9 @@ use Rattle.nq_comment.specs.Totals.{Totals, totals_of}
 use Rattle.nq_comment.specs.ReportViews.{ending_of}
 use Rattle.nq_comment.specs.declared.report.SyntaxFault.{SyntaxFault}
 use Rattle.nq_logic.specs.Classes.{without_classes}
+use Rattle.nq_answers.specs.Claims.{claims_from}
 use Rattle.nq_block.specs.OpenLogs.{end_text}
-use Rattle.nq_run.proofs.BuiltLemmas.{right_log}
+use Rattle.nq_run.proofs.RightLogs.{right_log}
 use Rattle.nq_run.proofs.RunLemmas.{partial_log, unended}
 use Rattle.nq_run.proofs.LogLemmas.{logs_after, logs_same, logs_within, within_after}
 use Rattle.nq_run.specs.Outcome as outcome
@@ -37,7 +38,7 @@ finished_log : (logging : Bool) (ending : Ending) (forms : Forms) (reports : Lis
     → Logs logging a c (log ++ last_text ending) → (logging ≡ true → length (log ++ last_text ending) < 2 ^ 62) → (logging ≡ true → IsLogOf forms reports history log) → Runs [] forms reports history
     → IsEnded ending → FinishedLog logging ending forms reports a c
 finished_log logging done forms reports history a c log logs small is runs ended =
-    record { log = log ++ end_text; logs = logs; small = small; log_is = λ w. right_log forms reports history (without_classes history) log runs (is w) }
+    record { log = log ++ end_text; logs = logs; small = small; log_is = λ w. right_log (claims_from [] forms reports) (without_classes history) log (is w) }
 finished_log logging (fault code offset) forms reports history a c log logs small is runs ended =
     record {
       log = log;

@@ -12,7 +12,7 @@ pub mod NameLemmas
 pub mod DefinitionLemmas
 pub mod LogLemmas
 pub mod TurnLemmas
-pub mod BuiltLemmas
+pub mod RightLogs
 pub mod RunLemmas
 pub mod EndingLemmas
 pub mod RunHistories

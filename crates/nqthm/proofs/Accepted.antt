@@ -4,10 +4,9 @@ use Rattle.std.proofs.Math.Nat.{eq-or-lt_of_le}
 use Rattle.std.specs.Prelude.{◌⊎◌, Some, Result, Ok, Err}
 use Rattle.std.specs.Io.KnownBytes.{Appends}
 use Rattle.nq_form.specs.Grammar.{done}
-use Rattle.nq_log.specs.Logs.{Reading}
+use Rattle.nq_log.specs.Logs.{Reading, step}
 use Rattle.nq_log.specs.States.{Claim}
 use Rattle.nq_comment.specs.Reports.{Report}
-use Rattle.nq_log.specs.Stage.{built_step}
 use Rattle.nq_check.specs.Outcomes.{Checks}
 use Rattle.nq_check.specs.declared.verdict.Checked.{Checked}
 use Rattle.nq_check.specs.declared.verdict.Checked.TheVariants as checked
@@ -22,7 +21,7 @@ use Rattle.nqthm.specs.Accepted.{IsAccepted, WrittenLogs}
 not_too_long : (log : List ℕ) (held now : Option (List ℕ)) (status : ℕ) → length log < 2 ^ 62 → HasChecked (Some log) held now status → status ≡ 7 → ⊥
 not_too_long log held now status small has is = go has.outcome has.status_is has.checks
   where
-    go : (o : Result Checked CheckFault) → status ≡ check_status o → Checks built_step (Some log) held now o → ⊥
+    go : (o : Result Checked CheckFault) → status ≡ check_status o → Checks step (Some log) held now o → ⊥
     go (Ok (checked.Accepted k)) told c = let two : 0 ≡ 7 = sym told ∙ is in absurd (cc)
     go (Ok (checked.Refused line why)) told c = let two : 1 ≡ 7 = sym told ∙ is in absurd (cc)
     go (Err fault.Read) told c = let two : 4 ≡ 7 = sym told ∙ is in absurd (cc)
@@ -40,7 +39,7 @@ right_log_accepted claims log small right held now status has = elim told [
 ]
   where
     told : (status ≡ 0) ⊎ ((4 ≤ status) × (status ≤ 7))
-    told = subst (λ (r : Reading). IsVerdictOf r.ending status) right.accepted has.verdict
+    told = subst (λ (r : Reading). IsVerdictOf r.ending status) right.reads has.verdict
 
 finished_accepted : (start : Option (List ℕ)) (reports : List Report) (held now : Held) → Finished true start done reports held now → (log : List ℕ) × Appends held.log now.log log × IsAccepted log
 finished_accepted start reports held now finished =

@@ -7,9 +7,8 @@ use Rattle.std.proofs.lemmas.Bool.{eq-eqb, eqb-true}
 use Rattle.nq_form.specs.Form.{Forms}
 use Rattle.nq_form.specs.Grammar.{Ending, Reads, done, fault, too_long}
 use Rattle.nq_form.proofs.OneReading.{one_reading}
-use Rattle.nq_log.specs.Logs.{Right, Wrong, reading_by}
+use Rattle.nq_log.specs.Logs.{Right, Wrong, reading_by, step}
 use Rattle.nq_log.specs.Logs as logs
-use Rattle.nq_log.specs.Stage.{built_step}
 use Rattle.nq_sexp.specs.declared.fault.ReadFault.TheVariants as read_fault
 use Rattle.nq_comment.specs.Reports.{Report}
 use Rattle.nq_comment.specs.Totals.{Totals, totals_of, unsuccessful}
@@ -173,11 +172,11 @@ verdict_nothing Right status least most = inr (least, most)
 verdict_nothing (Wrong line reason) status least most = inr (least, most)
 
 abbrev pub Verdict : Option (List ℕ) → ℕ → Type 0
-Verdict start status = IfSome start (λ text. IsVerdictOf (reading_by built_step text).ending status)
+Verdict start status = IfSome start (λ text. IsVerdictOf (reading_by step text).ending status)
 
 nothing_verdict : (start : Option (List ℕ)) (status : ℕ) → 4 ≤ status → status ≤ 7 → Verdict start status
 nothing_verdict None status least most = tt
-nothing_verdict (Some text) status least most = verdict_nothing (reading_by built_step text).ending status least most
+nothing_verdict (Some text) status least most = verdict_nothing (reading_by step text).ending status least most
 
 answer_verdict : (claims : ℕ) (ending : logs.Ending) (answer : Checked) (status : ℕ) → status ≡ check_status (Ok answer) → Answers claims ending answer → IsVerdictOf ending status
 answer_verdict claims Right (checked.Accepted k) status is answers = inl is
@@ -185,19 +184,19 @@ answer_verdict claims Right (checked.Refused line why) status is answers = absur
 answer_verdict claims (Wrong line reason) (checked.Accepted k) status is answers = absurd answers
 answer_verdict claims (Wrong line reason) (checked.Refused at why) status is answers = inl is
 
-checked_verdict : (start held now : Option (List ℕ)) (answer : Checked) (status : ℕ) → status ≡ check_status (Ok answer) → IsChecked built_step start held now answer → Verdict start status
+checked_verdict : (start held now : Option (List ℕ)) (answer : Checked) (status : ℕ) → status ≡ check_status (Ok answer) → IsChecked step start held now answer → Verdict start status
 checked_verdict None held now answer status is h = tt
 checked_verdict (Some text) held now answer status is h =
     subst (λ (r : logs.Reading). IsVerdictOf r.ending status) (sym h.read) (answer_verdict _ h.reading.ending answer status is h.answers)
 
-verdict_of : (start held now : Option (List ℕ)) (r : Result Checked CheckFault) (status : ℕ) → status ≡ check_status r → Checks built_step start held now r → Verdict start status
+verdict_of : (start held now : Option (List ℕ)) (r : Result Checked CheckFault) (status : ℕ) → status ≡ check_status r → Checks step start held now r → Verdict start status
 verdict_of start held now (Ok answer) status is checks = checked_verdict start held now answer status is checks
 verdict_of start held now (Err check.Read) status is checks = nothing_verdict start status (omega (arith, is)) (omega (arith, is))
 verdict_of start held now (Err check.Write) status is checks = nothing_verdict start status (omega (arith, is)) (omega (arith, is))
 verdict_of start held now (Err check.Memory) status is checks = nothing_verdict start status (omega (arith, is)) (omega (arith, is))
 verdict_of start held now (Err check.TooLong) status is checks = nothing_verdict start status (omega (arith, is)) (omega (arith, is))
 
-pub has_checked : (start held now : Option (List ℕ)) (r : Result Checked CheckFault) (status : ℕ) → status ≡ check_status r → Checks built_step start held now r
+pub has_checked : (start held now : Option (List ℕ)) (r : Result Checked CheckFault) (status : ℕ) → status ≡ check_status r → Checks step start held now r
     → HasChecked start held now status
 has_checked start held now r status is checks = record {
   outcome = r;
@@ -211,12 +210,12 @@ pub untouched_checked : (start held : Option (List ℕ)) → HasChecked start he
 untouched_checked start held = has_checked start held held (Err check.Memory) 6 refl (inl cut)
   where
     nothing_read : (start : Option (List ℕ))
-        → IfSome start (λ text. (taken : List ℕ) × (more : List ℕ) × (text ≡ taken ++ more) × (reading_by built_step taken ≡ reading_by built_step []))
+        → IfSome start (λ text. (taken : List ℕ) × (more : List ℕ) × (text ≡ taken ++ more) × (reading_by step taken ≡ reading_by step []))
     nothing_read None = tt
     nothing_read (Some text) = ([], text, refl, refl)
 
-    cut : IsCutInClaims built_step start held held
-    cut = record { reading = reading_by built_step []; read = nothing_read start; text = (0, Appends-nil held); sound = tt }
+    cut : IsCutInClaims step start held held
+    cut = record { reading = reading_by step []; read = nothing_read start; text = (0, Appends-nil held); sound = tt }
 
 -- ---- the usage line
 

@@ -2,8 +2,7 @@
 use Rattle.std.specs.Prelude.{◌≡◌, ◌⊎◌, ◌<◌, ◌^◌, ℕ, List, Bool, true, Option, IfSome, Result, Ok, Err}
 use Rattle.nq_form.specs.Form.{Forms}
 use Rattle.nq_form.specs.Grammar.{Ending, Reads, done, fault}
-use Rattle.nq_log.specs.Logs.{reading_by}
-use Rattle.nq_log.specs.Stage.{built_step}
+use Rattle.nq_log.specs.Logs.{reading_by, step}
 use Rattle.nq_comment.specs.Reports.{Report}
 use Rattle.nq_comment.specs.Totals.{totals_of, unsuccessful}
 use Rattle.nq_check.specs.declared.verdict.Checked.{Checked}
@@ -44,6 +43,6 @@ check_status (Err check.TooLong) = 7
 pub record HasChecked (start held now : Option (List ℕ)) (status : ℕ) : Type 0 where
   pub outcome : Result Checked CheckFault
   pub status_is : status ≡ check_status outcome
-  pub checks : Checks built_step start held now outcome
+  pub checks : Checks step start held now outcome
   -- the status is 0 only where the text is a right log, and 1 only where it is none; else it says nothing of the text
-  pub verdict : IfSome start (λ text. IsVerdictOf (reading_by built_step text).ending status)
+  pub verdict : IfSome start (λ text. IsVerdictOf (reading_by step text).ending status)

@@ -89,14 +89,9 @@ fn definitions_have_conditions(rt: HostRuntime) -> Result<(), Fail> {
 fn a_definition_stands_behind_terms_and_lines(rt: HostRuntime) -> Result<(), Fail> {
     for (lines, want) in [
         (
-            b"F G 1\n".as_slice(),
-            b"Refused, line 2: not allowed.\n".as_slice(),
+            b"V X\nA G 1\n".as_slice(),
+            b"Refused, line 3: not allowed.\n".as_slice(),
         ),
-        (
-            b"V X\nREFL 1\nMEASURE 1 1\n",
-            b"Refused, line 4: not allowed.\n",
-        ),
-        (b"V X\nA G 1\n", b"Refused, line 3: not allowed.\n"),
         (
             b"V X\nPART UNBOX NONE-OF ZERO\nDEFN G 1 1\n",
             b"Refused, line 4: not allowed.\n",

@@ -1,9 +1,9 @@
-use Rattle.nq_log.specs.Stage.{built_step}
+use Rattle.nq_log.specs.Logs.{step}
 use Rattle.nq_check.proofs.CheckingLemmas.{nothing_yet, verdict_checks}
 use Rattle.nq_check.proofs.checking.check.Goals as goal
 
 pub returns-in-Err-clause-checks : goal.returns-in-Err-clause-checks
-returns-in-Err-clause-checks g c = nothing_yet (g.S.Source.left c.args.src.now) (g.O.Sink.written c.args.out.now) (c.right_claims.ensures.narrow built_step c.right_claims.ensures.built)
+returns-in-Err-clause-checks g c = nothing_yet (g.S.Source.left c.args.src.now) (g.O.Sink.written c.args.out.now) (c.right_claims.ensures.narrow step (λ s line taken e. e))
 
 pub returns-in-Ok-judge_text-clause-checks : goal.returns-in-Ok-judge_text-clause-checks
 returns-in-Ok-judge_text-clause-checks g c =

@@ -1,24 +1,24 @@
 use Rattle.std.proofs.Common.{◌+◌, ◌<◌, ◌≤◌, ◌^◌, length, take, ap, subst, arith}
 use Rattle.std.specs.Io.KnownBytes.{Consumes}
-use Rattle.nq_log.specs.Stage.{built_step}
+use Rattle.nq_log.specs.Logs.{step}
 use Rattle.nq_check.specs.Checking.{Progress}
 use Rattle.nq_check.proofs.CheckingLemmas.{unread, ended, too_long, goes_on, stops, cut_off, broken}
 use Rattle.nq_check.proofs.checking.judge_text.Goals as goal
 
 pub returns-in-Err-clause-judges : goal.returns-in-Err-clause-judges
 returns-in-Err-clause-judges g c =
-    unread c.args.checker.now c.requires.start c.pieces.checker c.pieces.unfinished.items c.pieces.taken _ _ _ _ c.pieces.invariant.0 _ (c.right_claims.ensures.narrow built_step c.right_claims.ensures.built) c.in-Err.ensures.kept
+    unread c.args.checker.now c.requires.start c.pieces.checker c.pieces.unfinished.items c.pieces.taken _ _ _ _ c.pieces.invariant.0 _ (c.right_claims.ensures.narrow step (λ s line taken e. e)) c.in-Err.ensures.kept
 
 pub returns-then-count-eq0-clause-judges : goal.returns-then-count-eq0-clause-judges
 returns-then-count-eq0-clause-judges g c =
     let none = ap (λ n. take n c.read_bytes.new.buffer) c.if-count-eq0.true in
-    ended c.args.checker.now c.requires.start c.pieces.checker c.pieces.unfinished.items c.pieces.taken _ _ _ _ c.pieces.invariant.0 _ c.answer_at_end.result (c.right_claims.ensures.narrow built_step c.right_claims.ensures.built)
+    ended c.args.checker.now c.requires.start c.pieces.checker c.pieces.unfinished.items c.pieces.taken _ _ _ _ c.pieces.invariant.0 _ c.answer_at_end.result (c.right_claims.ensures.narrow step (λ s line taken e. e))
     c.requires.none c.answer_at_end.ensures (subst (Consumes (g.S.Source.left c.pieces.src) (g.S.Source.left c.read_bytes.new.src)) none c.in-Ok.ensures.taken) (c.in-Ok.ensures.end c.if-count-eq0.true)
 
 pub returns-then-taken-eq-LIMIT-clause-judges : goal.returns-then-taken-eq-LIMIT-clause-judges
 returns-then-taken-eq-LIMIT-clause-judges g c =
     let some : 0 < length (take c.in-Ok.count c.read_bytes.new.buffer) = omega (arith, c.in-Ok.ensures.count, c.if-count-eq0.false) in
-    too_long c.args.checker.now c.requires.start c.pieces.checker c.pieces.unfinished.items c.pieces.taken _ _ _ _ c.pieces.invariant.0 _ (take c.in-Ok.count c.read_bytes.new.buffer) (c.right_claims.ensures.narrow built_step c.right_claims.ensures.built)
+    too_long c.args.checker.now c.requires.start c.pieces.checker c.pieces.unfinished.items c.pieces.taken _ _ _ _ c.pieces.invariant.0 _ (take c.in-Ok.count c.read_bytes.new.buffer) (c.right_claims.ensures.narrow step (λ s line taken e. e))
     c.in-Ok.ensures.taken some c.if-taken-eq-LIMIT.true
 
 pub pieces-preserved : goal.pieces-preserved
@@ -44,10 +44,10 @@ returns-in-Ok-Some-clause-judges g c =
     let within : c.pieces.taken + length (take c.in-Ok.count c.read_bytes.new.buffer) ≤ 2 ^ 62 = omega (arith, counted, most, c.room_at-room.ensures.within, c.if-taken-eq-LIMIT.false, known) in
     let stop = rw c.in-Ok-Some.field-0-is at c.in-Ok-Some.ensures.taken in
     stops c.args.checker.now c.requires.start c.pieces.checker c.pieces.unfinished.items c.pieces.taken _ _ _ _ c.pieces.invariant.0 _ c.take_piece.new.self
-    (take c.in-Ok.count c.read_bytes.new.buffer) c.in-Ok-Some.why (g.O.Sink.written c.take_piece.new.out) (c.right_claims.ensures.narrow built_step c.right_claims.ensures.built) c.in-Ok.ensures.taken within stop
+    (take c.in-Ok.count c.read_bytes.new.buffer) c.in-Ok-Some.why (g.O.Sink.written c.take_piece.new.out) (c.right_claims.ensures.narrow step (λ s line taken e. e)) c.in-Ok.ensures.taken within stop
 
 pub returns-in-Err-take_piece-clause-judges : goal.returns-in-Err-take_piece-clause-judges
 returns-in-Err-take_piece-clause-judges g c =
     let cut = cut_off c.args.checker.now c.requires.start c.pieces.checker c.pieces.unfinished.items c.pieces.taken _ _ _ _ c.pieces.invariant.0 _ (take c.in-Ok.count c.read_bytes.new.buffer) (g.O.Sink.written c.take_piece.new.out)
-    (c.right_claims.ensures.narrow built_step c.right_claims.ensures.built) c.in-Ok.ensures.taken c.in-Err-take_piece.ensures.interrupted in
+    (c.right_claims.ensures.narrow step (λ s line taken e. e)) c.in-Ok.ensures.taken c.in-Err-take_piece.ensures.interrupted in
     broken _ _ _ c.take_piece.result c.in-Err-take_piece.fault c.in-Err-take_piece.is c.take_piece.ensures.no_read c.take_piece.ensures.no_length cut

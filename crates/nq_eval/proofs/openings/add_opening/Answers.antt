@@ -1,22 +1,12 @@
-use Rattle.std.proofs.Common.{List, ◌≡◌, ◌≤◌, ◌∙◌, ◌∷◌, [], Option, ℕ, refl, sym, ap, subst, arith}
+use Rattle.std.proofs.Common.{List, ◌∙◌, ◌∷◌, [], sym, subst}
 use Rattle.nq_history.specs.declared.entry.Entry.{Entry}
 use Rattle.nq_kernel.specs.declared.work.Work.{Work}
 use Rattle.nq_kernel.specs.Growing.{WorkStands, LineHolds}
-use Rattle.nq_eval.specs.Lines.{GrowsUncounted, IsUsable}
-use Rattle.nq_eval.proofs.LineLemmas.{grown_trans, grown_refl, line_is}
-use Rattle.std.specs.Prelude.{codes, IfOk}
-use Rattle.nq_logic.specs.Terms.{Term}
+use Rattle.nq_eval.specs.Lines.{GrowsUncounted}
 use Rattle.nq_logic.specs.Words.{equal_term}
-use Rattle.nq_bank.specs.declared.node.TermId.{TermId}
-use Rattle.nq_bank.specs.declared.node.Sym.{Sym}
-use Rattle.nq_bank.specs.Content.{NamesText, term_at, text_at}
-use Rattle.nq_eval.specs.Opened.{Opens, IsOpening, IsOpenedTo}
-use Rattle.nq_eval.specs.declared.openings.Opening.{Opening}
-use Rattle.nq_eval.specs.declared.openings.Opened.{Opened}
-use Rattle.nq_eval.specs.Measured.{IsMadeOf, IsMadeOfTwo}
-use Rattle.nq_eval.proofs.ClosingLemmas.{usable_after, same_after}
-use Rattle.nq_eval.proofs.ChoiceLemmas.{name_after}
-use Rattle.nq_eval.proofs.OpeningLemmas.{opened_instance, opened_has, opened_to, one_line}
+use Rattle.nq_bank.specs.Content.{term_at}
+use Rattle.nq_eval.proofs.ClosingLemmas.{same_after}
+use Rattle.nq_eval.proofs.OpeningLemmas.{opened_instance, opened_has, opened_to}
 use Rattle.nq_fragments.specs.Openings.{body_of}
 use Rattle.nq_eval.proofs.openings.add_opening.Goals as goal
 

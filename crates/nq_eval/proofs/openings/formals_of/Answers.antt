@@ -4,7 +4,6 @@ use Rattle.nq_bank.specs.declared.node.Sym.{Sym}
 use Rattle.nq_bank.specs.Content.{Content}
 use Rattle.nq_history.specs.declared.entry.Entry.{Entry}
 use Rattle.nq_history.specs.Events.{events_at, EntryStands}
-use Rattle.nq_history.specs.Lookups.{entry_named}
 use Rattle.nq_eval.specs.Opened.{IsDefinedBy}
 use Rattle.nq_eval.proofs.FormalsLemmas.{named_entry, defined}
 use Rattle.nq_eval.proofs.openings.formals_of.Goals as goal

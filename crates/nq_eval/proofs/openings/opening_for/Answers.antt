@@ -1,4 +1,3 @@
-use Rattle.std.proofs.Common.{sym, ◌∙◌}
 use Rattle.nq_eval.proofs.LineLemmas.{grown_refl}
 use Rattle.nq_eval.proofs.openings.opening_for.Goals as goal
 

@@ -1,4 +1,4 @@
-use Rattle.std.proofs.Common.{◌≡◌, ◌≤◌, ◌<◌, ◌∷◌, [], ◌∙◌, length, get_or, take, List, sym, ap, ap₂, subst, arith}
+use Rattle.std.proofs.Common.{◌≤◌, ◌∙◌, length, get_or, List, sym, ap₂, subst, arith}
 use Rattle.std.specs.Prelude.{All}
 use Rattle.std.proofs.lemmas.List.{take_all}
 use Rattle.nq_logic.specs.Admissible.{matched}
@@ -8,7 +8,7 @@ use Rattle.nq_bank.specs.Content.{Content, terms_at}
 use Rattle.nq_bank.specs.Shells.{texts_at}
 use Rattle.nq_bank.proofs.Standing.{All-push}
 use Rattle.nq_clause.specs.declared.substitution.Pair.{Pair}
-use Rattle.nq_clause.specs.Substitution.{substitution_at, PairStands}
+use Rattle.nq_clause.specs.Substitution.{PairStands}
 use Rattle.nq_eval.proofs.DefinedLemmas.{pairs_more}
 use Rattle.nq_eval.proofs.openings.pairs_for.Goals as goal
 

@@ -1,22 +1,13 @@
-use Rattle.std.proofs.Common.{List, ◌≡◌, ◌≤◌, ◌∙◌, ◌∷◌, [], ℕ, refl, sym, ap, subst, arith}
+use Rattle.std.proofs.Common.{List, ◌∙◌, ◌∷◌, [], sym, ap}
 use Rattle.nq_history.specs.declared.entry.Entry.{Entry}
 use Rattle.nq_kernel.specs.declared.work.Work.{Work}
-use Rattle.nq_kernel.specs.Growing.{WorkStands, LineHolds}
-use Rattle.nq_eval.specs.Lines.{GrowsUncounted, IsUsable, Equates}
-use Rattle.nq_eval.proofs.LineLemmas.{grown_trans, held_after, held_here, line_is, each_shallow, equates_grown, equation_over}
-use Rattle.std.specs.Prelude.{is_some, IfOk}
-use Rattle.nq_logic.specs.Terms.{Term}
+use Rattle.nq_kernel.specs.Growing.{WorkStands}
+use Rattle.nq_eval.specs.Lines.{GrowsUncounted, IsUsable}
+use Rattle.nq_eval.proofs.LineLemmas.{grown_trans, held_after, equates_grown}
 use Rattle.nq_logic.specs.Words.{not_term, equal_term}
-use Rattle.nq_logic.specs.Ground.{symbols_of}
-use Rattle.nq_logic.specs.Sizes.{depth_of, depth_limit}
 use Rattle.nq_bank.specs.declared.node.TermId.{TermId}
 use Rattle.nq_bank.specs.Content.{IsIdOf, term_at}
-use Rattle.nq_history.specs.Events.{events_at}
-use Rattle.nq_kernel.specs.Over.{IsVariable, IsTermOf}
-use Rattle.nq_eval.specs.Truths.{IsTruth}
 use Rattle.nq_eval.proofs.ClosingLemmas.{usable_after, same_after}
-use Rattle.nq_eval.proofs.TruthLemmas.{truth_after}
-use Rattle.nq_eval.proofs.ProvedLemmas.{backwards_given, backwards_shallow, equation_cut}
 use Rattle.nq_eval.proofs.proved.lemma_line.Goals as goal
 
 pub add_backwards-requires-clause-term : goal.add_backwards-requires-clause-term

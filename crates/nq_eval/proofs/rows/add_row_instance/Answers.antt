@@ -1,4 +1,4 @@
-use Rattle.std.proofs.Common.{◌≡◌, ◌∙◌, Option, sym, ap, subst}
+use Rattle.std.proofs.Common.{◌≡◌, Option, sym, subst}
 use Rattle.std.specs.Prelude.{IsSome, IfOk}
 use Rattle.nq_clause.specs.Substitution.{substitution_at}
 use Rattle.nq_proof.specs.Clauses.{Clause}

@@ -1,4 +1,4 @@
-use Rattle.std.proofs.Common.{◌≤◌, ◌<◌, [], ◌∙◌, Err, ap, sym, subst, arith}
+use Rattle.std.proofs.Common.{◌<◌, [], ◌∙◌, Err, ap, sym, subst, arith}
 use Rattle.nq_logic.specs.Terms.{call}
 use Rattle.nq_logic.specs.Words.{false_term}
 use Rattle.nq_logic.specs.Sizes.{depth_of, depth_limit}

@@ -1,22 +1,14 @@
-use Rattle.std.proofs.Common.{List, ◌≡◌, ◌≤◌, ◌∙◌, ◌∷◌, [], Option, ℕ, refl, sym, ap, subst, arith}
+use Rattle.std.proofs.Common.{List}
 use Rattle.nq_history.specs.declared.entry.Entry.{Entry}
 use Rattle.nq_kernel.specs.declared.work.Work.{Work}
-use Rattle.nq_kernel.specs.Growing.{WorkStands, LineHolds}
-use Rattle.nq_eval.specs.Lines.{GrowsUncounted, IsUsable}
-use Rattle.nq_eval.proofs.LineLemmas.{grown_trans, grown_refl, line_is}
-use Rattle.std.specs.Prelude.{codes, IfOk}
-use Rattle.nq_logic.specs.Terms.{Term}
-use Rattle.nq_logic.specs.Words.{equal_term}
-use Rattle.nq_bank.specs.declared.node.TermId.{TermId}
-use Rattle.nq_bank.specs.declared.node.Sym.{Sym}
-use Rattle.nq_bank.specs.Content.{NamesText, term_at, text_at}
-use Rattle.nq_eval.specs.Opened.{Opens, IsOpening, IsOpenedTo}
-use Rattle.nq_eval.specs.declared.openings.Opening.{Opening}
-use Rattle.nq_eval.specs.declared.openings.Opened.{Opened}
-use Rattle.nq_eval.specs.Measured.{IsMadeOf, IsMadeOfTwo}
-use Rattle.nq_eval.proofs.ClosingLemmas.{usable_after, same_after}
+use Rattle.nq_kernel.specs.Growing.{WorkStands}
+use Rattle.nq_eval.specs.Lines.{GrowsUncounted}
+use Rattle.nq_eval.proofs.LineLemmas.{grown_trans}
+use Rattle.std.specs.Prelude.{codes}
+use Rattle.nq_bank.specs.Content.{NamesText}
+use Rattle.nq_eval.proofs.ClosingLemmas.{usable_after}
 use Rattle.nq_eval.proofs.ChoiceLemmas.{name_after}
-use Rattle.nq_eval.proofs.SizeLemmas.{part_read, part_in, parts_read, parts_in, made_after, made_two_after, pair_opens, atom_opens, negative_opens, truth_unopened, falsity_unopened, atom_made, negative_made, pair_made, no_count_of_number, count_of_none, count_of_more}
+use Rattle.nq_eval.proofs.SizeLemmas.{parts_read, parts_in}
 use Rattle.nq_eval.proofs.sizes.pairs_for.Goals as goal
 
 pub returns-clause-pairs : goal.returns-clause-pairs

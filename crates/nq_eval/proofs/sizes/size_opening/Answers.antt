@@ -1,6 +1,6 @@
-use Rattle.std.proofs.Common.{◌≤◌, length, arith}
+use Rattle.std.proofs.Common.{arith}
 use Rattle.nq_eval.proofs.LineLemmas.{grown_refl}
-use Rattle.nq_eval.proofs.SizeLemmas.{count_of_one, count_of_none, count_of_more}
+use Rattle.nq_eval.proofs.SizeLemmas.{count_of_one, count_of_more}
 use Rattle.nq_eval.proofs.sizes.size_opening.Goals as goal
 
 pub opening_of_one-requires-clause-count : goal.opening_of_one-requires-clause-count

@@ -1,10 +1,8 @@
-use Rattle.std.proofs.Common.{◌≡◌, ◌∷◌, []}
-use Rattle.std.specs.Prelude.{IfOk}
+use Rattle.std.proofs.Common.{◌∷◌, []}
 use Rattle.nq_logic.specs.Terms.{Term}
 use Rattle.nq_logic.specs.Words.{false_term, equal_term}
 use Rattle.nq_bank.specs.Content.{term_at}
 use Rattle.nq_clause.specs.Substitution.{substitution_at}
-use Rattle.nq_proof.specs.Clauses.{Clause}
 use Rattle.nq_kernel.specs.declared.work.Work.{Work}
 use Rattle.nq_eval.specs.Truths.{IsTruth}
 use Rattle.nq_eval.proofs.LineLemmas.{grown_trans, line_is, held_here}

@@ -1,4 +1,4 @@
-use Rattle.std.proofs.Common.{◌≡◌, ◌∷◌, [], ap}
+use Rattle.std.proofs.Common.{◌∷◌, [], ap}
 use Rattle.std.specs.Prelude.{is_some}
 use Rattle.nq_logic.specs.Terms.{Term}
 use Rattle.nq_logic.specs.Words.{false_term, not_term}

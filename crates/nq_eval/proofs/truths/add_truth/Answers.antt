@@ -1,20 +1,16 @@
-use Rattle.std.proofs.Common.{List, ◌≡◌, ◌≤◌, ◌∙◌, ◌∷◌, [], refl, sym, ap, subst, arith, ℕ, Some}
+use Rattle.std.proofs.Common.{List, ◌≡◌, ◌∙◌, ◌∷◌, [], sym, ap, subst, ℕ, Some}
 use Rattle.nq_history.specs.declared.entry.Entry.{Entry}
 use Rattle.nq_kernel.specs.declared.work.Work.{Work}
 use Rattle.nq_kernel.specs.Growing.{WorkStands, LineHolds}
-use Rattle.nq_eval.specs.Lines.{GrowsUncounted, IsUsable}
+use Rattle.nq_eval.specs.Lines.{GrowsUncounted}
 use Rattle.nq_eval.proofs.LineLemmas.{grown_trans, held_after}
-use Rattle.nq_logic.specs.Sizes.{depth_of}
 use Rattle.nq_logic.specs.Words.{false_term, not_term, equal_term}
-use Rattle.nq_logic.specs.Ground.{symbols_of}
 use Rattle.nq_bank.specs.declared.node.TermId.{TermId}
 use Rattle.nq_bank.specs.Content.{term_at}
-use Rattle.nq_history.specs.Events.{events_at}
-use Rattle.nq_kernel.specs.Over.{IsVariable, IsTermOf}
-use Rattle.nq_eval.specs.Truths.{IsTruth, IsFalsity, IsDenied}
+use Rattle.nq_eval.specs.Truths.{IsTruth, IsDenied}
 use Rattle.nq_eval.specs.declared.truths.Denied.{Denied}
-use Rattle.nq_eval.proofs.ClosingLemmas.{small_value, usable_after, same_after}
-use Rattle.nq_eval.proofs.TruthLemmas.{equal_false, twice_false, truth_after, falsity_after, denied_after, falsity_is, small_depth, first_depth, second_depth, with_false, equation_usable_from, equal_false_value}
+use Rattle.nq_eval.proofs.ClosingLemmas.{small_value}
+use Rattle.nq_eval.proofs.TruthLemmas.{equal_false, truth_after, denied_after, equal_false_value}
 use Rattle.nq_proof.specs.Values.{value_of}
 use Rattle.nq_eval.proofs.truths.add_truth.Goals as goal
 

@@ -6,13 +6,13 @@ use Rattle.nq_logic.specs.Sizes.{depth_of, depth_limit}
 use Rattle.nq_bank.specs.declared.node.BankFault.{BankFault}
 use Rattle.nq_bank.specs.Content.{terms_at}
 use Rattle.nq_bank.proofs.Growth.{Grows-trans}
-use Rattle.nq_history.proofs.HistoryLemmas.{history_grown}
+use Rattle.nq_check.proofs.ContextLemmas.{whole_grown}
 use Rattle.nq_check.specs.Contexts.{state_of}
 use Rattle.nq_check.proofs.CallLemmas.{call_unnamed, arity_is, call_is, call_unknown, call_known, call_goes_on, too_deep}
 use Rattle.nq_check.proofs.context.Context.call_line.Goals as goal
 
-pub takes_arguments-requires-clause-history : goal.takes_arguments-requires-clause-history
-takes_arguments-requires-clause-history c = history_grown c.args.self.now.bank c.name.new.self c.in_ok-f.ensures.ok.grows c.args.self.now.history c.requires.history.stands
+pub takes_arguments-requires-clause-whole : goal.takes_arguments-requires-clause-whole
+takes_arguments-requires-clause-whole c = whole_grown c.args.self.now c.name.new.self c.in_ok-f.ensures.ok.grows c.requires
 
 pub returns-in_default : goal.returns-in_default
 returns-in_default c =

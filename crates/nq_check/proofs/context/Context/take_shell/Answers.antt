@@ -12,6 +12,7 @@ returns-clause-whole c =
     let w = whole_grown c.args.self.now bank c.shell_of.ensures.grows c.requires in
     record {
       history = w.history;
+      introduced = w.introduced;
       terms = w.terms;
       lines = w.lines;
       parts = subst (All (PartStands bank)) (sym (ap (λ (v : Vec Part Global). v.items) c.replace-parts.ensures.after ∙ c.new.ensures.items)) (all_none (PartStands bank));
