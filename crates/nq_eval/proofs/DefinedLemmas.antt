@@ -31,7 +31,7 @@ use Rattle.nq_kernel.specs.Over.{IsVariable, IsTermOf}
 use Rattle.nq_fragments.specs.Outcomes.{is_small, value_depth}
 use Rattle.nq_fragments.specs.Openings.{Opening as OpeningOfTexts, event_opening, opening_of, if_same}
 use Rattle.nq_eval.specs.Rows.{row_at}
-use Rattle.nq_eval.specs.Known.{IsUsableDefinition}
+use Rattle.nq_kernel.specs.Ready.{IsUsableDefinition}
 use Rattle.nq_eval.specs.Opened.{IsDefinedBy, IsOtherName, IsOpening}
 use Rattle.nq_eval.specs.declared.openings.Opening.{Opening}
 use Rattle.nq_eval.proofs.ClosingLemmas.{value_over, small_value}

@@ -31,7 +31,8 @@ use Rattle.nq_eval.specs.Heads.{IsChoice, IsOtherCall}
 use Rattle.nq_eval.specs.declared.found.Known.{Known}
 use Rattle.nq_eval.specs.declared.openings.Opened.{Opened}
 use Rattle.nq_eval.specs.declared.gathered.ValuesCall.{ValuesCall}
-use Rattle.nq_eval.specs.Known.{IsKnown, IsReached, IsBlocked, Memo, Knows, HasUsableDefinitions, outcome_at, call_outcome}
+use Rattle.nq_eval.specs.Known.{IsKnown, IsReached, IsBlocked, Memo, Knows, outcome_at, call_outcome}
+use Rattle.nq_kernel.specs.Ready.{HasUsableDefinitions}
 use Rattle.nq_eval.specs.Gathered.{CanEvaluate, HasRoom, AreKnown, values_at, Stops, IsReduced, IsValuesCall}
 use Rattle.nq_eval.specs.Opened.{IsOpenedTo, IsUnopened}
 use Rattle.nq_eval.proofs.CostLemmas.{one_more_taken, stops_at, outcome_call, opens_to, opened_nowhere, opened_never}

@@ -18,7 +18,8 @@ use Rattle.nq_eval.specs.declared.gathered.Values.{Values}
 use Rattle.nq_eval.specs.declared.gathered.Gathered.{Gathered}
 use Rattle.nq_eval.specs.declared.gathered.Gathered.TheVariants as gathered
 use Rattle.nq_eval.specs.declared.gathered.ValuesCall.{ValuesCall}
-use Rattle.nq_eval.specs.Known.{IsKnown, AreEqual, Memo, Knows, HasUsableDefinitions}
+use Rattle.nq_eval.specs.Known.{IsKnown, AreEqual, Memo, Knows}
+use Rattle.nq_kernel.specs.Ready.{HasUsableDefinitions}
 
 -- the work stands, the history can be opened, and what is kept is known
 pub record CanEvaluate (history : List Entry) (work : Work) (memo : Memo) : Type 0 where

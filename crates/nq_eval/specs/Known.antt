@@ -84,17 +84,3 @@ abbrev pub left_on : ℕ → Found → ℕ
 left_on left (found.Value k) = left - k.calls
 left_on left (found.Blocked u) = 0
 left_on left found.Fuel = 0
-
--- the greatest depth of a body
-abbrev pub body_depth : ℕ
-body_depth = 2000
-
--- the formals are distinct variables that a log can spell, and the body is over the history's functions and not too deep
-pub record IsUsableDefinition (h : History) (d : Definition) : Type 0 where
-  pub distinct : are_distinct d.formals ≡ true
-  pub spelled : Each IsVariable d.formals
-  pub over : IsTermOf IsVariable (symbols_of h) d.body
-  pub shallow : depth_of d.body ≤ body_depth
-
-pub record HasUsableDefinitions (h : History) : Type 0 where
-  pub each : (f : Name) (d : Definition) → looked_up f h ≡ Some (Defines d) → IsUsableDefinition h d

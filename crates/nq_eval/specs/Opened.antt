@@ -22,7 +22,8 @@ use Rattle.nq_kernel.specs.Over.{IsVariable, IsTermOf}
 use Rattle.nq_kernel.specs.Growing.{LineHolds}
 use Rattle.nq_fragments.specs.Outcomes.{value_depth}
 use Rattle.nq_fragments.specs.Openings.{Opening as OpeningOfTexts, opening_of, body_of}
-use Rattle.nq_eval.specs.Known.{AreEqual, body_depth}
+use Rattle.nq_eval.specs.Known.{AreEqual}
+use Rattle.nq_kernel.specs.Ready.{body_depth}
 use Rattle.nq_eval.specs.Lines.{IsUsable}
 use Rattle.nq_eval.specs.Rows.{row_at, ArePairsIn}
 use Rattle.nq_eval.specs.declared.openings.Opening.{Opening}

@@ -3,7 +3,8 @@ ghost use Rattle.std.specs.Prelude.{IfOk};
 ghost use Rattle.nq_history.specs.Events.{events_at};
 ghost use Rattle.nq_kernel.specs.Growing.{WorkStands};
 ghost use Rattle.nq_eval.specs.Lines.{GrowsUncounted, IsUsable};
-ghost use Rattle.nq_eval.specs.Known.{IsReached, HasUsableDefinitions};
+ghost use Rattle.nq_eval.specs.Known.{IsReached};
+ghost use Rattle.nq_kernel.specs.Ready.{IsReady};
 ghost use Rattle.nq_eval.specs.Answers.{IsEvaluated};
 
 use crate::equalities::equated;
@@ -36,7 +37,7 @@ pub enum EvalAnswer {
 /// No step is counted. It fails only for want of memory.
 pub fn evaluate(work: &mut Work, history: &History, t: TermId) -> Result<EvalAnswer, AllocError>
     requires stands { WorkStands history.now work.old }
-    requires definitions { HasUsableDefinitions (events_at work.old.bank history.now) }
+    requires ready { IsReady (events_at work.old.bank history.now) }
     requires term { IsUsable work.old.bank history.now t }
     ensures answer { IfOk result (λ answer. IsEvaluated history.now work.new t answer) }
     ensures grows { GrowsUncounted history.now work.old work.new }

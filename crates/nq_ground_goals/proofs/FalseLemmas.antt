@@ -21,7 +21,7 @@ use Rattle.nq_history.proofs.HistoryLemmas.{events_at-grown}
 use Rattle.nq_kernel.specs.Over.{IsVariable, IsTermOf}
 use Rattle.nq_fragments.specs.Outcomes.{Outcome, BlockedAt, OutOfFuel, term_depth}
 use Rattle.nq_fragments.specs.Evaluation.{outcome_of, value_reached, HasGroundValue}
-use Rattle.nq_eval.specs.Known.{HasUsableDefinitions}
+use Rattle.nq_kernel.specs.Ready.{IsReady}
 use Rattle.nq_goals.specs.Spent.{IsFalse, IsGround}
 use Rattle.nq_ground_goals.specs.Literals.{IsLiteral}
 
@@ -85,8 +85,8 @@ module _ (history : List Entry) (old new : Content) (grows : Grows old new) (sta
         over = subst (λ u. IsTermOf IsVariable (symbols_of (events_at new history)) u) (sym (term_at-grown old new t grows k.stands)) (subst (λ es. IsTermOf IsVariable (symbols_of es) (term_at old t)) (sym events_same) k.over);
       }
 
-  pub definitions_grown : HasUsableDefinitions (events_at old history) → HasUsableDefinitions (events_at new history)
-  definitions_grown k = subst HasUsableDefinitions (sym events_same) k
+  pub ready_grown : IsReady (events_at old history) → IsReady (events_at new history)
+  ready_grown k = subst IsReady (sym events_same) k
 
   -- the value of the grown bank's term
   pub value_back : (t : TermId) (b : Bool) → Stands old t → IsTrue b ↔ (value_reached (outcome_of (events_at new history) (term_at new t)) ≡ Some false_term) →

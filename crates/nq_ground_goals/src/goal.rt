@@ -4,7 +4,7 @@ ghost use Rattle.nq_bank.specs.Content.{term_at, terms_at};
 ghost use Rattle.nq_history.specs.Events.{events_at};
 ghost use Rattle.nq_kernel.specs.Growing.{WorkStands};
 ghost use Rattle.nq_eval.specs.Lines.{GrowsUncounted};
-ghost use Rattle.nq_eval.specs.Known.{HasUsableDefinitions};
+ghost use Rattle.nq_kernel.specs.Ready.{IsReady};
 ghost use Rattle.nq_goals.specs.Spent.{IsFalse, IsGround};
 ghost use Rattle.nq_ground_goals.specs.Literals.{IsLiteral};
 
@@ -18,7 +18,7 @@ use std::alloc::AllocError;
 /// Have all literals of a ground goal the value F?
 fn are_false(work: &mut Work, history: &History, goal: &[TermId]) -> Result<bool, AllocError>
     requires stands { WorkStands history.now work.old }
-    requires definitions { HasUsableDefinitions (events_at work.old.bank history.now) }
+    requires ready { IsReady (events_at work.old.bank history.now) }
     requires literals { All (IsLiteral work.old.bank history.now) goal.now }
     requires without { IsGround (terms_at work.old.bank goal.now) }
     ensures answer { IfOk result (λ answer. IsTrue answer ↔ IsFalse (events_at work.old.bank history.now) (terms_at work.old.bank goal.now)) }
@@ -41,7 +41,7 @@ fn are_false(work: &mut Work, history: &History, goal: &[TermId]) -> Result<bool
 /// want of memory.
 pub fn is_false(work: &mut Work, history: &History, goal: &[TermId]) -> Result<bool, AllocError>
     requires stands { WorkStands history.now work.old }
-    requires definitions { HasUsableDefinitions (events_at work.old.bank history.now) }
+    requires ready { IsReady (events_at work.old.bank history.now) }
     requires literals { All (IsLiteral work.old.bank history.now) goal.now }
     ensures answer { IfOk result (λ answer. IsTrue answer ↔ IsFalse (events_at work.old.bank history.now) (terms_at work.old.bank goal.now)) }
     ensures grows { GrowsUncounted history.now work.old work.new }

@@ -1,5 +1,5 @@
 use Rattle.std.proofs.Common.{sym, subst}
-use Rattle.nq_eval.specs.Known.{HasUsableDefinitions}
+use Rattle.nq_kernel.specs.Ready.{HasUsableDefinitions}
 use Rattle.nq_eval.proofs.LineLemmas.{grown_trans}
 use Rattle.nq_eval.proofs.ClosingLemmas.{usable_after, events_same}
 use Rattle.nq_eval.proofs.EvaluationLemmas.{values_call_after}

@@ -4,7 +4,7 @@ use Rattle.nq_bank.specs.Content.{term_at, terms_at}
 use Rattle.nq_history.specs.Events.{events_at}
 use Rattle.nq_goals.specs.Spent.{IsGround}
 use Rattle.nq_eval.proofs.LineLemmas.{grown_refl, grown_trans}
-use Rattle.nq_ground_goals.proofs.FalseLemmas.{ground_parts, first_is, rest_shorter, rest_told, definitions_grown, literals_grown, rest_same, false_back}
+use Rattle.nq_ground_goals.proofs.FalseLemmas.{ground_parts, first_is, rest_shorter, rest_told, ready_grown, literals_grown, rest_same, false_back}
 use Rattle.nq_ground_goals.proofs.goal.+are_false.Goals as goal
 
 pub is_false_literal-requires-clause-no_variable : goal.is_false_literal-requires-clause-no_variable
@@ -28,7 +28,7 @@ are_false-requires t c =
     let without : IsGround (terms_at middle rest) = subst IsGround (sym (rest_same h bank middle grows held goal_ids c.requires.literals)) parts.1 in
     let shorter : length rest < length goal_ids = rest_shorter goal_ids c.in-len1-up.len_at_least in
     let falls : length rest < t = omega (arith, shorter, c.decreases) in
-    (falls, (c.is_false_literal.ensures.grows.grows.stands, (definitions_grown h bank middle grows held c.requires.definitions, (literals_grown h bank middle grows held goal_ids c.requires.literals, without))))
+    (falls, (c.is_false_literal.ensures.grows.grows.stands, (ready_grown h bank middle grows held c.requires.ready, (literals_grown h bank middle grows held goal_ids c.requires.literals, without))))
 
 pub returns-in_err-answer-in-len1-up-clause-grows : goal.returns-in_err-answer-in-len1-up-clause-grows
 returns-in_err-answer-in-len1-up-clause-grows t c =
