@@ -1,0 +1,5 @@
+pub mod TermLemmas
+pub mod DepthLemmas
+pub mod OpeningLemmas
+pub mod JudgingLemmas
+pub mod LawLemmas

@@ -1,0 +1,3 @@
+pub mod Pairs
+pub mod Judging
+pub mod Measures

@@ -1,0 +1,8 @@
+pub mod Kinds
+pub mod Trails
+pub mod Ready
+pub mod Traces
+pub mod Turns
+pub mod Solved
+pub mod Outcomes
+pub mod Uses
