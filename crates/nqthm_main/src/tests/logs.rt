@@ -195,9 +195,9 @@ fn a_log_of_no_definition_is_refused(rt: HostRuntime) -> Result<(), Fail> {
         (&[b"V X", b"DEFN G 1 1 1"], NO_CLAIM),
         (&[b"V X", b"N 0", b"DEFN G 1 1 2"], NO_CLAIM),
         (&[b"V X", b"V Y", b"DEFN G 1 2"], NO_CLAIM),
-        // the function is not known in its own body, and a block may not begin with it yet
+        // the function is not known in its own body, where no line begins the block with it, and has that line's arity
         (&[b"V X", b"A G 1"], NO_CLAIM),
-        (&[b"F G 1"], NO_CLAIM),
+        (&[b"F G 1", b"V X", b"V Y", b"DEFN G 1 1 2"], NO_CLAIM),
         // it is known no more behind its undoing
         (
             &[b"V X", b"DEFN G 1 1", b"UNDO G", b"V X", b"A G 1"],
