@@ -1,4 +1,0 @@
-pub mod DepthLemmas
-pub mod LawLemmas
-pub mod LineLemmas
-pub mod InstanceLemmas
