@@ -37,6 +37,3 @@ pub use lines::add_line;
 pub use measures::{measure_falls, measure_is_ordinal, size_is_ordinal, smaller_is_below};
 pub use replaying::replay;
 pub use table::{Law, LawCase, LawHypothesis, LawPair, LawRule};
-
-#[cfg(test)]
-mod tests;
