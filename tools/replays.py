@@ -22,7 +22,7 @@ def steps(t):
 def listed(texts):
     return "&[%s]" % ", ".join(texts)
 
-def table(name, line, known):
+def table(name, line, known, types="crate::table"):
     """the law's table: the lines that it rests on, down to those that are known and to axioms"""
     order, new = cone(L, line, known)
     assert order[:len(known)] == known, (name, order[:len(known)], known)
@@ -61,11 +61,10 @@ def table(name, line, known):
     out += "".join("        %s,\n" % s for s in made) + "    ],\n    rules: &[\n" + "".join("        %s,\n" % r for r in rules) + "    ],\n};\n"
     head = "//! The table of the law `%s`. It is printed.\n\n" % name
     used = [w for w in ("Law", "LawCase", "LawHypothesis", "LawPair", "LawRule") if re.search(r"\b%s\b" % w, out)]
-    head += "use crate::table::%s;\n" % ("{%s}" % ", ".join(used))
-    head += "use nq_bank::ground;\n"
+    uses = ["use %s::{%s};\n" % (types, ", ".join(used)), "use nq_bank::ground;\n", "use nq_steps::{Leaf, Step};\n"]
     if "Side::" in out:
-        head += "use nq_rule::Side;\n"
-    head += "use nq_steps::{Leaf, Step};\n"
+        uses.append("use nq_rule::Side;\n")
+    head += "".join(sorted(uses))
     return head + "".join("\nconst %s: Step = Step::Leaf(Leaf::Letter(b'%s'));\n" % (v, v) for v in letters) + out
 
 def found(text, **how):
@@ -224,4 +223,5 @@ def main(crate):
     put("specs/LawClauses.antt", clauses)
     put("src/tables.rt", "//! The tables of laws. They are printed.\n\n" + "".join("pub mod %s;\n" % m for m in sorted(modules)))
 
-main(sys.argv[1])
+if __name__ == "__main__":
+    main(sys.argv[1])

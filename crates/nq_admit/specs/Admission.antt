@@ -1,7 +1,6 @@
 -- What the test of a definition answers.
-use Rattle.std.specs.Prelude.{◌≡◌, ⊤, Bool, true, false, List, map, Option, None, Some, Result, Ok, Err}
+use Rattle.std.specs.Prelude.{◌≡◌, ⊤, List, map, Option, None, Some, Result, Ok, Err}
 use Rattle.nq_logic.specs.Terms.{Name}
-use Rattle.nq_logic.specs.Admissible.{mentions}
 use Rattle.nq_bank.specs.declared.node.Sym.{Sym}
 use Rattle.nq_bank.specs.declared.node.TermId.{TermId}
 use Rattle.nq_bank.specs.Content.{Content, IsNamed, text_at, term_at}
@@ -14,28 +13,27 @@ use Rattle.nq_events.specs.Refusals.{Refusal}
 use Rattle.nq_events.specs.Refusals as refusal
 use Rattle.nq_events.specs.OwnRefusals.{definition_refusal}
 use Rattle.nq_admit.specs.declared.admission.AdmitFault.{AdmitFault}
-use Rattle.nq_admit.specs.declared.admission.AdmitFault.TheVariants.{NameInUse, FormalIsConstant, RepeatedFormal, FreeVariable, BadMeasureHint, TooManyEvents, NotYet, Memory}
+use Rattle.nq_admit.specs.declared.admission.AdmitFault.TheVariants.{NameInUse, FormalIsConstant, RepeatedFormal, FreeVariable, BadMeasureHint, TooManyEvents, Memory}
 
 -- the first refusal of the definition, if there is one
 abbrev pub refusal_at : Content → List Entry → Sym → List Sym → TermId → List Measure → Option Refusal
 refusal_at bank history name formals body measures =
     definition_refusal (events_at bank history) (text_at bank name) (texts_at bank formals) (term_at bank body) (map (measure_at bank) measures)
 
--- the fault is that refusal; where there is none, the body calls the function, which is not built yet, or memory is wanting
-abbrev pub IsFault : Content → Name → Option Refusal → Bool → AdmitFault → Type 0
-IsFault bank name why recursive NameInUse = why ≡ Some (refusal.FunctionInUse name)
-IsFault bank name why recursive (FormalIsConstant x) = why ≡ Some (refusal.FormalIsConstant (text_at bank x))
-IsFault bank name why recursive (RepeatedFormal x) = why ≡ Some (refusal.RepeatedFormal (text_at bank x))
-IsFault bank name why recursive (FreeVariable x) = why ≡ Some (refusal.FreeVariable (text_at bank x))
-IsFault bank name why recursive BadMeasureHint = why ≡ Some refusal.BadMeasureHint
-IsFault bank name why recursive TooManyEvents = why ≡ Some refusal.TooManyEvents
-IsFault bank name why recursive NotYet = (why ≡ None) × (recursive ≡ true)
-IsFault bank name why recursive Memory = ⊤
+-- the fault is that refusal, or memory is wanting
+abbrev pub IsFault : Content → Name → Option Refusal → AdmitFault → Type 0
+IsFault bank name why NameInUse = why ≡ Some (refusal.FunctionInUse name)
+IsFault bank name why (FormalIsConstant x) = why ≡ Some (refusal.FormalIsConstant (text_at bank x))
+IsFault bank name why (RepeatedFormal x) = why ≡ Some (refusal.RepeatedFormal (text_at bank x))
+IsFault bank name why (FreeVariable x) = why ≡ Some (refusal.FreeVariable (text_at bank x))
+IsFault bank name why BadMeasureHint = why ≡ Some refusal.BadMeasureHint
+IsFault bank name why TooManyEvents = why ≡ Some refusal.TooManyEvents
+IsFault bank name why Memory = ⊤
 
--- accepted exactly where nothing refuses the definition and the body does not call its function
-abbrev pub IsAdmission : Content → Name → Option Refusal → Bool → Result (Unit {0}) AdmitFault → Type 0
-IsAdmission bank name why recursive (Ok u) = (why ≡ None) × (recursive ≡ false)
-IsAdmission bank name why recursive (Err fault) = IsFault bank name why recursive fault
+-- accepted exactly where nothing refuses the definition
+abbrev pub IsAdmission : Content → Name → Option Refusal → Result (Unit {0}) AdmitFault → Type 0
+IsAdmission bank name why (Ok u) = why ≡ None
+IsAdmission bank name why (Err fault) = IsFault bank name why fault
 
 -- the names that a fault tells stand in the bank
 abbrev pub IsNamedFault : Content → AdmitFault → Type 0
@@ -45,5 +43,4 @@ IsNamedFault bank (RepeatedFormal x) = IsNamed bank x
 IsNamedFault bank (FreeVariable x) = IsNamed bank x
 IsNamedFault bank BadMeasureHint = ⊤
 IsNamedFault bank TooManyEvents = ⊤
-IsNamedFault bank NotYet = ⊤
 IsNamedFault bank Memory = ⊤

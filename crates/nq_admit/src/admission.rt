@@ -1,6 +1,6 @@
 //! Whether a definition is admitted.
 ghost use Rattle.std.specs.Prelude.{◌≡◌, ◌&&◌, All, IfErr, List, map};
-ghost use Rattle.nq_logic.specs.Admissible.{has_variables, mentions};
+ghost use Rattle.nq_logic.specs.Admissible.{has_variables};
 ghost use Rattle.nq_bank.specs.Content.{IsNamed, text_at, term_at};
 ghost use Rattle.nq_bank.specs.Shells.{texts_at};
 ghost use Rattle.nq_bank.specs.declared.node.Sym.{Sym};
@@ -12,7 +12,7 @@ ghost use Rattle.nq_admit.specs.Formals.{IsSetOf};
 ghost use Rattle.nq_admit.specs.declared.admission.AdmitFault.TheVariants.{Memory};
 
 use crate::formals::{first_constant, first_repeated, formal_set};
-use crate::terms::{first_free, mentions};
+use crate::terms::first_free;
 use nq_bank::ground::{LESSP, ORD_LESSP};
 use nq_bank::{Bank, Sym, TermId};
 use nq_event::Measure;
@@ -42,9 +42,6 @@ pub enum AdmitFault {
     /// As many events stand as may.
     #[error("too many events")]
     TooManyEvents,
-    /// The body calls the function, and no measure is sought yet.
-    #[error("not yet")]
-    NotYet,
     /// Memory is wanting.
     #[error("out of memory")]
     Memory,
@@ -94,7 +91,7 @@ fn are_good_measures(bank: &Bank, formals: &HashSet<u64>, measures: &[Measure]) 
 
 /// Whether a function may be defined so: its name is in no use, its formals are distinct variables, its body has no other
 /// variables, each measure that is hinted is over the formals under a relation that is known, and there is room. The first
-/// fault is answered. Last, a body that calls the function is answered as what isn't built yet.
+/// fault is answered.
 pub fn admit(
     bank: &Bank,
     history: &History,
@@ -105,7 +102,7 @@ pub fn admit(
 ) -> Result<(), AdmitFault>
     requires history { HistoryStands bank.now history.now }
     requires event { DefnStands bank.now name formals.now body measures.now }
-    ensures answer { IsAdmission bank.now (text_at bank.now name) (refusal_at bank.now history.now name formals.now body measures.now) (mentions (text_at bank.now name) (term_at bank.now body)) result }
+    ensures answer { IsAdmission bank.now (text_at bank.now name) (refusal_at bank.now history.now name formals.now body measures.now) result }
     ensures named { IfErr result (IsNamedFault bank.now) }
 {
     if history.in_use(bank, name) {
@@ -126,9 +123,6 @@ pub fn admit(
     }
     if history.past_ground().len() >= EVENT_LIMIT {
         return Err(AdmitFault::TooManyEvents);
-    }
-    if mentions(bank, name, body) {
-        return Err(AdmitFault::NotYet);
     }
     Ok(())
 }

@@ -1,4 +1,4 @@
-//! Which definitions are admitted: those that meet the Definition Principle. So far no function is admitted that calls itself.
+//! Which definitions are refused: the tests of the Definition Principle but for its measure, which is sought elsewhere.
 //!
 //! The contract that the layer above uses is that of `admit`.
 #![tactic(auto)]
@@ -6,7 +6,7 @@
 // formals that are no variables, or stand twice
 mod formals;
 
-// variables and calls of bodies and measures
+// variables of bodies and measures
 mod terms;
 
 // the principle itself

@@ -1,6 +1,6 @@
 -- What each event of a run claims holds in the history before it, and so does each event that stands at the end.
 use Rattle.std.proofs.Common.{◌≡◌, Bool, true, false, List, [], ◌∷◌, sym, subst, refl, inl, inr}
-use Rattle.std.specs.Prelude.{◌++◌, length, Option, None, Some, ⊤, if◌then◌else◌}
+use Rattle.std.specs.Prelude.{◌++◌, ◌⊎◌, length, Option, None, Some, ⊤, if◌then◌else◌}
 use Rattle.nq_logic.specs.Terms.{Name, Term, IsTerm}
 use Rattle.nq_logic.specs.Formulas.{holds}
 use Rattle.nq_logic.specs.Derivations.{Derivable}
@@ -13,17 +13,21 @@ use Rattle.nq_form.specs.Form.{Form, Forms, end, dotted, next}
 use Rattle.nq_log.specs.States.{Adds, Undoes}
 use Rattle.nq_log.specs.Laws.{ClaimsHold, EventHolds, IsSound}
 use Rattle.nq_log.proofs.Events.{sound_after}
-use Rattle.nq_comment.specs.Reports.{Answer, Accepted, Undone, Skipped, Proved, Quick, Taut, Inst, Report}
-use Rattle.nq_events.specs.Events.{Event, Hints, BootStrap, AddShell, Dcl, Defn, AddAxiom, ProveLemma, Toggle, Undo, Skipped as PassedOver}
+use Rattle.nq_comment.specs.Reports.{Answer, Accepted, AcceptedBy, Undone, Skipped, Proved, ProvedFrom, Failed, OutOfSteps, Quick, Taut, Eval, Inst, Report}
+use Rattle.nq_comment.specs.declared.step.Cause.TheVariants.{False, NoInduction}
+use Rattle.nq_goals.specs.Hints.{first_goal}
+use Rattle.nq_language.specs.Printing.{printed}
+use Rattle.nq_events.specs.Events.{Event, Hints, Measure, BootStrap, AddShell, Dcl, Defn, AddAxiom, ProveLemma, Toggle, Undo, Skipped as PassedOver}
 use Rattle.nq_events.specs.EventTerms.{HasEventTerms}
 use Rattle.nq_events.specs.Reading.{event_of, event_refusal}
-use Rattle.nq_events.specs.Refusals.{Refusal, NameInUse}
-use Rattle.nq_events.specs.OwnRefusals.{in_use_refusal, own_refusal, refused_if, room_refusal}
-use Rattle.nq_events.specs.AllowedEvents.{IsAllowedEvent, plain_definition}
-use Rattle.nq_events.specs.Effects.{defined}
+use Rattle.nq_events.specs.Refusals.{Refusal}
+use Rattle.nq_events.specs.OwnRefusals.{own_refusal}
+use Rattle.nq_events.specs.AllowedEvents.{IsAllowedEvent}
+use Rattle.nq_events.specs.Effects.{defined, history_after}
 use Rattle.nq_events.proofs.EventTerms.{events_have_terms}
 use Rattle.nq_events.proofs.AllowedEvents.{events_are_allowed, plain_definitions}
-use Rattle.nq_answers.specs.Steps.{Answers, AnswersUnless, IsOutcome, IsTried, Runs, after, after_event, classes_answer, first_answer, formula_answer, is_taken, not_yet, recursive_answer, refusal_of, refused, undone, untaken}
+use Rattle.nq_answers.specs.Goals.{goal_text}
+use Rattle.nq_answers.specs.Steps.{Answers, AnswersUnless, IsDefined, IsOutcome, IsRecursionTried, IsTried, by_tautology, by_evaluation, by_instance, by_falsity, by_want, by_search, Runs, after, after_event, first_answer, is_taken, measure_by, not_yet, refusal_of, refused, undone, untaken}
 use Rattle.nq_answers.specs.Claims.{claims_of, event_claims}
 use Rattle.nq_answers.specs.Derived.{EventsHold}
 use Rattle.nq_answers.specs.Laws.{RunsAreDerived}
@@ -36,7 +40,7 @@ abbrev pub TakesNothing : Option Answer → Type 0
 TakesNothing None = ⊤
 TakesNothing (Some answer) = is_taken answer ≡ false
 
-refused_nothing : (o : Option Refusal) → TakesNothing (refused o)
+pub refused_nothing : (o : Option Refusal) → TakesNothing (refused o)
 refused_nothing None = tt
 refused_nothing (Some refusal) = refl
 
@@ -44,35 +48,9 @@ first_nothing : (a b : Option Answer) → TakesNothing a → TakesNothing b → 
 first_nothing None b h k = k
 first_nothing (Some a) b h k = h
 
-classes_nothing : (form : Form) (classes : List RuleClass) → TakesNothing (classes_answer form classes)
-classes_nothing form [] = tt
-classes_nothing form (class ∷ classes) = refl
-
-formula_nothing : (h : History) (form : Form) (name : Name) (classes : List RuleClass) → TakesNothing (formula_answer h form name classes)
-formula_nothing h form name classes =
-    first_nothing (refused (in_use_refusal NameInUse h name)) (first_answer (classes_answer form classes) (refused (room_refusal h))) (refused_nothing (in_use_refusal NameInUse h name))
-    (first_nothing (classes_answer form classes) (refused (room_refusal h)) (classes_nothing form classes) (refused_nothing (room_refusal h)))
-
-recursive_nothing : (form : Form) (b : Bool) → TakesNothing (if b then Some (not_yet form) else None)
-recursive_nothing form true = refl
-recursive_nothing form false = tt
-
-pub untaken_nothing : (h : History) (form : Form) (e : Event) → TakesNothing (untaken h form e)
-untaken_nothing h form BootStrap = tt
-untaken_nothing h form (AddShell shell) = refused_nothing (own_refusal h (AddShell shell))
-untaken_nothing h form (Dcl name formals) = refused_nothing (own_refusal h (Dcl name formals))
-untaken_nothing h form (Defn name formals body measures) =
-    first_nothing (refused (own_refusal h (Defn name formals body measures))) (recursive_answer form name body)
-    (refused_nothing (own_refusal h (Defn name formals body measures))) (recursive_nothing form (mentions name body))
-untaken_nothing h form (AddAxiom name classes t) = formula_nothing h form name classes
-untaken_nothing h form (ProveLemma name classes t hints) = formula_nothing h form name classes
-untaken_nothing h form (Toggle name old disabled) = refused_nothing (own_refusal h (Toggle name old disabled))
-untaken_nothing h form (Undo name) = refused_nothing (own_refusal h (Undo name))
-untaken_nothing h form PassedOver = tt
-
 pub refusal_nothing : (h : History) (form : Form) → TakesNothing (refusal_of h form)
 refusal_nothing h form =
-    first_nothing (refused (event_refusal h form)) (untaken h form (event_of h form)) (refused_nothing (event_refusal h form)) (untaken_nothing h form (event_of h form))
+    first_nothing (refused (event_refusal h form)) (untaken h (event_of h form)) (refused_nothing (event_refusal h form)) (refused_nothing (own_refusal h (event_of h form)))
 
 -- ---- where nothing is refused
 
@@ -88,22 +66,9 @@ pub no_refusal : (o : Option Refusal) → refused o ≡ None → o ≡ None
 no_refusal None e = refl
 no_refusal (Some refusal) e = absurd cc
 
-not_refused : (b : Bool) (r : Refusal) → refused_if b r ≡ None → b ≡ false
-not_refused true r e = absurd cc
-not_refused false r e = refl
-
-not_recursive : (form : Form) (b : Bool) → (if b then Some (not_yet form) else None) ≡ None → b ≡ false
-not_recursive form true e = absurd cc
-not_recursive form false e = refl
-
 -- an event without a refusal of its own meets the conditions of its kind
 allowed_event : (h : History) (e : Event) → refused (own_refusal h e) ≡ None → IsAllowedEvent h e
 allowed_event h e none = events_are_allowed h e (no_refusal (own_refusal h e) none)
-
--- the name of an axiom or a lemma that isn't refused is new
-formula_unused : (h : History) (form : Form) (name : Name) (classes : List RuleClass) → formula_answer h form name classes ≡ None → is_in_use name h ≡ false
-formula_unused h form name classes none =
-    not_refused (is_in_use name h) (NameInUse name) (none_refused (in_use_refusal NameInUse h name) (first_answer (classes_answer form classes) (refused (room_refusal h))) none)
 
 -- ---- what an event claims by its answer, in a sound history
 
@@ -113,10 +78,10 @@ HoldsAfter h e answer = ClaimsHold h (claims_of e answer) × IsSound (after_even
 
 -- an event that is not taken claims nothing
 not_claimed : (h : History) (e : Event) (answer : Answer) → is_taken answer ≡ false → ClaimsHold h (claims_of e answer)
-not_claimed h e answer k = subst (λ (b : Bool). ClaimsHold h (if b then event_claims e else [])) (sym k) tt
+not_claimed h e answer k = subst (λ (b : Bool). ClaimsHold h (if b then event_claims e (measure_by e answer) else [])) (sym k) tt
 
 not_after : (h : History) (e : Event) (answer : Answer) → is_taken answer ≡ false → IsSound h → IsSound (after_event h e answer)
-not_after h e answer k sound = subst (λ (b : Bool). IsSound (if b then after_event h e Accepted else h)) (sym k) sound
+not_after h e answer k sound = subst (λ (b : Bool). IsSound (if b then history_after h e (measure_by e answer) else h)) (sym k) sound
 
 module _ (h : History) (sound : IsSound h) (form : Form) where
   -- an answer that is known
@@ -133,23 +98,60 @@ module _ (h : History) (sound : IsSound h) (form : Form) where
       (((subst (λ (n : Name). is_in_use n h ≡ false) (sym same) unused, claim), tt), added_holds added unused holds)
 
   -- a lemma that is tried, over the functions of the history
-  lemma_holds : (name : Name) (classes : List RuleClass) (t : Term) (hints : Hints) (answer : Answer) → IsTerm (symbols_of h) t → is_in_use name h ≡ false → IsTried h form t answer
+  lemma_holds : (name : Name) (classes : List RuleClass) (t : Term) (hints : Hints) (answer : Answer) → IsTerm (symbols_of h) t → is_in_use name h ≡ false → IsTried h form hints t answer
       → HoldsAfter h (ProveLemma name classes t hints) answer
   lemma_holds name classes t hints answer over unused tried = by_way tried
     where
       e : Event
       e = ProveLemma name classes t hints
 
-      proved : (quick : Quick) → answer ≡ Proved quick → Derivable h (holds t) → HoldsAfter h e answer
-      proved quick so shown = answered e answer (Proved quick) so (taken_holds (logic.Lemma name [] t) (logic.Lemma name classes t) refl unused shown shown)
+      claimed : Derivable h (holds t) → ClaimsHold h (Adds (logic.Lemma name [] t) ∷ []) × IsSound (h ++ logic.Lemma name classes t ∷ [])
+      claimed shown = taken_holds (logic.Lemma name [] t) (logic.Lemma name classes t) refl unused shown shown
 
-      by_way : IsTried h form t answer → HoldsAfter h e answer
-      by_way (inl (small, so)) = proved Taut so (tautology_derivable h t over small)
-      by_way (inr (inl (first, so))) = proved Inst so (instance_derivable h t sound over first.instance)
-      by_way (inr (inr (none, so))) = answered e answer (not_yet form) so (tt, sound)
+      proved : (quick : Quick) → answer ≡ Proved quick → Derivable h (holds t) → HoldsAfter h e answer
+      proved quick so shown = answered e answer (Proved quick) so (claimed shown)
+
+      found : (Derivable h (holds t) × (answer ≡ ProvedFrom (goal_text (first_goal h hints t)) [])) ⊎ ((answer ≡ OutOfSteps) ⊎ (answer ≡ not_yet form)) → HoldsAfter h e answer
+      found (inl (shown, so)) = answered e answer (ProvedFrom (goal_text (first_goal h hints t)) []) so (claimed shown)
+      found (inr (inl so)) = answered e answer OutOfSteps so (tt, sound)
+      found (inr (inr so)) = answered e answer (not_yet form) so (tt, sound)
+
+      by_way : IsTried h form hints t answer → HoldsAfter h e answer
+      by_way (by_tautology small so) = proved Taut so (tautology_derivable h t over small)
+      by_way (by_evaluation valued) = proved Eval valued.answer_is valued.shown
+      by_way (by_instance first so) = proved Inst so (instance_derivable h t sound over first.instance)
+      by_way (by_falsity falsified) = answered e answer (Failed (goal_text (first_goal h hints t)) [] False) falsified.answer_is (tt, sound)
+      by_way (by_want given_up) = answered e answer (Failed (goal_text (first_goal h hints t)) [] NoInduction) given_up.answer_is (tt, sound)
+      by_way (by_search searched) = found searched.found
+
+  -- a definition that is tried
+  definition_holds : (name : Name) (formals : List Name) (body : Term) (measures : List Measure) (answer : Answer) → event_refusal h form ≡ None → event_of h form ≡ Defn name formals body measures
+      → own_refusal h (Defn name formals body measures) ≡ None → (b : Bool) → mentions name body ≡ b → IsDefined b h form name formals body measures answer
+      → HoldsAfter h (Defn name formals body measures) answer
+  definition_holds name formals body measures answer none is own b recursive so = by_test b recursive so
+    where
+      e : Event
+      e = Defn name formals body measures
+
+      -- what a definition by this measure claims, and adds
+      Defines : Option Term → Type 0
+      Defines m = ClaimsHold h (Adds (defined name formals body m) ∷ []) × IsSound (h ++ defined name formals body m ∷ [])
+
+      defines : (m : Option Term) → IsAdmissible h (record { function = name; formals = formals; body = body; measure = m }) → Defines m
+      defines m admissible = taken_holds (defined name formals body m) (defined name formals body m) refl admissible.unused admissible admissible
+
+      recursion : IsRecursionTried h form name formals body measures answer → HoldsAfter h e answer
+      recursion (inl accepted) =
+          answered e answer (AcceptedBy accepted.place (printed accepted.measure)) accepted.answer_is
+          (subst Defines (sym accepted.tried) (defines (Some accepted.measure) accepted.admissible))
+      recursion (inr unmeasured) = answered e answer (not_yet form) unmeasured.answer_is (tt, sound)
+
+      by_test : (b : Bool) → mentions name body ≡ b → IsDefined b h form name formals body measures answer → HoldsAfter h e answer
+      by_test false plain so = answered e answer Accepted so (defines None (plain_definitions h form name formals body measures none is own plain))
+      by_test true recursive so = recursion so
 
   -- an event without a refusal
-  outcome_holds : (e : Event) (answer : Answer) → event_refusal h form ≡ None → event_of h form ≡ e → HasEventTerms h e → untaken h form e ≡ None → IsOutcome h form e answer → HoldsAfter h e answer
+  outcome_holds : (e : Event) (answer : Answer) → event_refusal h form ≡ None → event_of h form ≡ e → HasEventTerms h e → untaken h e ≡ None → IsOutcome h form e answer → HoldsAfter h e answer
   outcome_holds BootStrap answer none is terms taken so = answered BootStrap answer Accepted so ((tt, tt), tt)
   outcome_holds (AddShell shell) answer none is terms taken so =
       let addable = allowed_event h (AddShell shell) taken in
@@ -160,17 +162,14 @@ module _ (h : History) (sound : IsSound h) (form : Form) where
       let e : logic.Event = logic.Declaration name (length formals) in
       answered (Dcl name formals) answer Accepted so (taken_holds e e refl declarable.addable.unused tt tt)
   outcome_holds (Defn name formals body measures) answer none is terms taken so =
-      let e : Event = Defn name formals body measures in
-      let own = none_refused (own_refusal h e) (recursive_answer form name body) taken in
-      let plain : mentions name body ≡ false = not_recursive form (mentions name body) (none_later (own_refusal h e) (recursive_answer form name body) taken) in
-      let admissible : IsAdmissible h (plain_definition name formals body) = plain_definitions h form name formals body measures none is own plain in
-      let definition : logic.Event = defined name formals body None in
-      answered e answer Accepted so (taken_holds definition definition refl admissible.unused admissible admissible)
+      definition_holds name formals body measures answer none is (no_refusal (own_refusal h (Defn name formals body measures)) taken) (mentions name body) refl so
   outcome_holds (AddAxiom name classes t) answer none is terms taken so =
+      let statable = allowed_event h (AddAxiom name classes t) taken in
       answered (AddAxiom name classes t) answer Accepted so
-      (taken_holds (logic.Axiom name [] t) (logic.Axiom name classes t) refl (formula_unused h form name classes taken) terms.read.over terms.read.over)
+      (taken_holds (logic.Axiom name [] t) (logic.Axiom name classes t) refl statable.addable.unused terms.read.over terms.read.over)
   outcome_holds (ProveLemma name classes t hints) answer none is terms taken so =
-      lemma_holds name classes t hints answer terms.0.read.over (formula_unused h form name classes taken) so
+      let statable = allowed_event h (ProveLemma name classes t hints) taken in
+      lemma_holds name classes t hints answer terms.0.read.over statable.addable.unused so
   outcome_holds (Toggle name old disabled) answer none is terms taken so =
       let togglable = allowed_event h (Toggle name old disabled) taken in
       let e : logic.Event = logic.Toggle name old disabled in
@@ -181,8 +180,8 @@ module _ (h : History) (sound : IsSound h) (form : Form) where
 
   answer_holds : (answer : Answer) (o : Option Answer) → refusal_of h form ≡ o → TakesNothing o → AnswersUnless o h form (event_of h form) answer → HoldsAfter h (event_of h form) answer
   answer_holds answer None is nothing so =
-      let none : event_refusal h form ≡ None = none_refused (event_refusal h form) (untaken h form (event_of h form)) is in
-      outcome_holds (event_of h form) answer none refl (events_have_terms h form none) (none_later (event_refusal h form) (untaken h form (event_of h form)) is) so
+      let none : event_refusal h form ≡ None = none_refused (event_refusal h form) (untaken h (event_of h form)) is in
+      outcome_holds (event_of h form) answer none refl (events_have_terms h form none) (none_later (event_refusal h form) (untaken h (event_of h form)) is) so
   answer_holds answer (Some refusal) is nothing so =
       answered (event_of h form) answer refusal so (not_claimed h (event_of h form) refusal nothing, not_after h (event_of h form) refusal nothing sound)
 

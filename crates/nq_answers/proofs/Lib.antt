@@ -1,5 +1,5 @@
+pub mod Joined
 pub mod SmallTautologies
 pub mod Instances
 pub mod Deriving
-pub mod BuiltClaims
 pub mod OneRun

@@ -17,10 +17,9 @@ use Rattle.nq_rule.proofs.LiteralLemmas.{true_same}
 use Rattle.nq_bank.proofs.Texts.{bytes_eq-true}
 use Rattle.nq_fragments.specs.declared.connective.Connective.{Connective}
 use Rattle.nq_fragments.specs.declared.connective.Connective.TheVariants.{And, Or, Implies, Iff}
-use Rattle.nq_quick.specs.Heads.{joined_term}
 use Rattle.nq_fragments.specs.Propositions.{Proposition, Other, Truth, Falsity, Choice, Denial, Joined, proposition_of, others_in, truth_of, connective_of, joined_by}
 use Rattle.nq_fragments.specs.Tautologies.{IsSmallTautology}
-use Rattle.nq_quick.proofs.HeadLemmas.{named_term}
+use Rattle.nq_answers.proofs.Joined.{joined_term, named_term}
 
 -- the place of a term in a list
 abbrev place_of : Term → List Term → ℕ

@@ -1,4 +1,5 @@
 pub mod Headers
+pub mod Goals
 pub mod Steps
 pub mod Claims
 pub mod Derived

@@ -1,20 +1,31 @@
 -- One step of a run: a form, its report, and the history after it.
-use Rattle.std.specs.Prelude.{◌≡◌, ◌⊎◌, ◌-◌, ℕ, length, Bool, true, false, List, [], ◌∷◌, Option, Some, None, codes, if◌then◌else◌}
+use Rattle.std.specs.Prelude.{◌≡◌, ◌⊎◌, ◌-◌, ℕ, length, Bool, true, false, List, [], ◌∷◌, slice_get, Option, Some, None, codes, if◌then◌else◌}
 use Rattle.nq_logic.specs.Terms.{Name, Term}
-use Rattle.nq_logic.specs.Histories.{History, RuleClass}
-use Rattle.nq_logic.specs.Admissible.{mentions}
+use Rattle.nq_logic.specs.Formulas.{holds}
+use Rattle.nq_logic.specs.Histories.{History, Definition}
+use Rattle.nq_logic.specs.Admissible.{mentions, IsAdmissible}
+use Rattle.nq_logic.specs.Derivations.{Derivable}
 use Rattle.nq_logic.specs.Names.{before_event}
+use Rattle.nq_language.specs.Printing.{printed}
 use Rattle.nq_form.specs.Form.{Form, Forms, end, dotted, next}
-use Rattle.nq_events.specs.Events.{Event, BootStrap, AddShell, Dcl, Defn, AddAxiom, ProveLemma, Toggle, Undo, Skipped as PassedOver}
-use Rattle.nq_events.specs.Refusals.{Refusal, NameInUse, code_of, words_of}
+use Rattle.nq_arith.specs.Structural.{IsStructural}
+use Rattle.nq_events.specs.Events.{Event, Hints, Measure, BootStrap, AddShell, Dcl, Defn, AddAxiom, ProveLemma, Toggle, Undo, Skipped as PassedOver}
+use Rattle.nq_events.specs.Refusals.{Refusal, code_of, words_of}
 use Rattle.nq_events.specs.Reading.{event_refusal, event_of}
-use Rattle.nq_events.specs.OwnRefusals.{in_use_refusal, own_refusal, room_refusal}
+use Rattle.nq_events.specs.OwnRefusals.{own_refusal}
+use Rattle.nq_events.specs.AllowedEvents.{plain_definition}
+use Rattle.nq_events.specs.Measures.{tried_measures}
 use Rattle.nq_events.specs.Effects.{history_after}
 use Rattle.nq_fragments.specs.Tautologies.{IsSmallTautology}
-use Rattle.nq_fragments.specs.Fragments.{IsFirstByInstance, IsInNoFragment}
-use Rattle.nq_comment.specs.Reports.{Answer, Accepted, Undone, Skipped, Proved, Refused, Taut, Inst, Report}
+use Rattle.nq_fragments.specs.Fragments.{IsFirstByEvaluation, IsFirstByInstance, IsInNoFragment}
+use Rattle.nq_goals.specs.Hints.{first_goal}
+use Rattle.nq_goals.specs.Spent.{IsFalse, IsSpent}
+use Rattle.nq_goals.specs.declared.kinds.Cause.TheVariants as cause
+use Rattle.nq_comment.specs.Reports.{Answer, Accepted, AcceptedBy, Undone, Skipped, Proved, ProvedFrom, Failed, OutOfSteps, Refused, Taut, Eval, Inst, Report}
+use Rattle.nq_comment.specs.declared.step.Cause.TheVariants.{False, NoInduction}
 use Rattle.nq_comment.specs.Text.{shown_word}
 use Rattle.nq_answers.specs.Headers.{name_of, word_of}
+use Rattle.nq_answers.specs.Goals.{goal_text}
 
 -- the first of two answers that there is
 abbrev pub first_answer : Option Answer → Option Answer → Option Answer
@@ -33,41 +44,75 @@ refused None = None
 abbrev pub not_yet : Form → Answer
 not_yet form = Refused 9 (codes "NotYet" ∷ shown_word (word_of form) ∷ [])
 
--- for now, to an axiom or a lemma with rule classes, in the place of the refusals of their shapes
-abbrev pub classes_answer : Form → List RuleClass → Option Answer
-classes_answer form [] = None
-classes_answer form (class ∷ classes) = Some (not_yet form)
-
--- why an axiom or a lemma that was read isn't taken or tried: 32, for now 9, and 33
-abbrev pub formula_answer : History → Form → Name → List RuleClass → Option Answer
-formula_answer h form name classes =
-    first_answer (refused (in_use_refusal NameInUse h name)) (first_answer (classes_answer form classes) (refused (room_refusal h)))
-
--- for now, to a definition that calls its own function, in the place of the refusal for want of a measure
-abbrev pub recursive_answer : Form → Name → Term → Option Answer
-recursive_answer form name body = if mentions name body then Some (not_yet form) else None
-
--- why an event that was read isn't taken: its own refusals, and for now 9
-abbrev pub untaken : History → Form → Event → Option Answer
-untaken h form BootStrap = None
-untaken h form (AddShell shell) = refused (own_refusal h (AddShell shell))
-untaken h form (Dcl name formals) = refused (own_refusal h (Dcl name formals))
-untaken h form (Defn name formals body measures) =
-    first_answer (refused (own_refusal h (Defn name formals body measures))) (recursive_answer form name body)
-untaken h form (AddAxiom name classes t) = formula_answer h form name classes
-untaken h form (ProveLemma name classes t hints) = formula_answer h form name classes
-untaken h form (Toggle name old disabled) = refused (own_refusal h (Toggle name old disabled))
-untaken h form (Undo name) = refused (own_refusal h (Undo name))
-untaken h form PassedOver = None
+-- why an event that was read isn't taken or tried: its own refusals
+abbrev pub untaken : History → Event → Option Answer
+untaken h event = refused (own_refusal h event)
 
 -- the first refusal that applies to a form
 abbrev pub refusal_of : History → Form → Option Answer
-refusal_of h form = first_answer (refused (event_refusal h form)) (untaken h form (event_of h form))
+refusal_of h form = first_answer (refused (event_refusal h form)) (untaken h (event_of h form))
 
--- A lemma is proved by the first fragment that holds it, whatever its hints are. For now there is no other way.
-abbrev pub IsTried : History → Form → Term → Answer → Type 0
-IsTried h form t answer =
-    (IsSmallTautology t × (answer ≡ Proved Taut)) ⊎ ((IsFirstByInstance h t × (answer ≡ Proved Inst)) ⊎ (IsInNoFragment h t × (answer ≡ not_yet form)))
+-- the definition of a function with a measure
+abbrev pub measured_definition : Name → List Name → Term → Term → Definition
+measured_definition name formals body m = record { function = name; formals = formals; body = body; measure = Some m }
+
+-- one of the measures that are tried admits the definition, and is told
+pub record IsAcceptedBy (h : History) (name : Name) (formals : List Name) (body : Term) (measures : List Measure) (answer : Answer) : Type 0 where
+  pub place : ℕ
+  pub measure : Term
+  pub tried : slice_get (tried_measures formals measures) place ≡ Some measure
+  pub admissible : IsAdmissible h (measured_definition name formals body measure)
+  pub answer_is : answer ≡ AcceptedBy place (printed measure)
+
+-- For now, a definition that is not structural by the ground shells may be answered so, whatever its measures.
+pub record IsUnmeasured (h : History) (form : Form) (name : Name) (formals : List Name) (body : Term) (answer : Answer) : Type 0 where
+  pub plain : IsStructural [] (plain_definition name formals body) → ⊥
+  pub answer_is : answer ≡ not_yet form
+
+-- a definition that calls its own function
+abbrev pub IsRecursionTried : History → Form → Name → List Name → Term → List Measure → Answer → Type 0
+IsRecursionTried h form name formals body measures answer =
+    IsAcceptedBy h name formals body measures answer ⊎ IsUnmeasured h form name formals body answer
+
+-- a definition, and whether it calls its own function
+abbrev pub IsDefined : Bool → History → Form → Name → List Name → Term → List Measure → Answer → Type 0
+IsDefined false h form name formals body measures answer = answer ≡ Accepted
+IsDefined true h form name formals body measures answer = IsRecursionTried h form name formals body measures answer
+
+-- The lemma is in no fragment and its first goal is not false. It is derivable, and proved from the first goal. Or it is not proved within the steps;
+-- or, for now, not at all.
+pub record IsSearched (h : History) (form : Form) (hints : Hints) (t : Term) (answer : Answer) : Type 0 where
+  pub no_fragment : IsInNoFragment h t
+  pub not_false : IsFalse h (first_goal h hints t) → ⊥
+  pub found : (Derivable h (holds t) × (answer ≡ ProvedFrom (goal_text (first_goal h hints t)) [])) ⊎ ((answer ≡ OutOfSteps) ⊎ (answer ≡ not_yet form))
+
+-- in no fragment, and each literal of its first goal is ground and has the value F
+pub record IsFalsified (h : History) (hints : Hints) (t : Term) (answer : Answer) : Type 0 where
+  pub no_fragment : IsInNoFragment h t
+  pub falsity : IsFalse h (first_goal h hints t)
+  pub answer_is : answer ≡ Failed (goal_text (first_goal h hints t)) [] False
+
+-- in no fragment, and its first goal is stuck: no move leads on from it, and no call in it suggests an induction
+pub record IsGivenUp (h : History) (hints : Hints) (t : Term) (answer : Answer) : Type 0 where
+  pub no_fragment : IsInNoFragment h t
+  pub spent : IsSpent h hints [] (first_goal h hints t) cause.NoInduction
+  pub answer_is : answer ≡ Failed (goal_text (first_goal h hints t)) [] NoInduction
+
+-- by its value, which is not F: it is derivable
+pub record IsEvaluated (h : History) (t : Term) (answer : Answer) : Type 0 where
+  pub first : IsFirstByEvaluation h t
+  pub shown : Derivable h (holds t)
+  pub answer_is : answer ≡ Proved Eval
+
+-- A lemma is proved by the first fragment that holds it, whatever its hints are. Where none does, it fails if its first goal is
+-- false. Else it may fail where its first goal is stuck, and is searched for.
+pub data IsTried (h : History) (form : Form) (hints : Hints) (t : Term) (answer : Answer) : Type 0 where
+  by_tautology : IsSmallTautology t → answer ≡ Proved Taut → IsTried h form hints t answer
+  by_evaluation : IsEvaluated h t answer → IsTried h form hints t answer
+  by_instance : IsFirstByInstance h t → answer ≡ Proved Inst → IsTried h form hints t answer
+  by_falsity : IsFalsified h hints t answer → IsTried h form hints t answer
+  by_want : IsGivenUp h hints t answer → IsTried h form hints t answer
+  by_search : IsSearched h form hints t answer → IsTried h form hints t answer
 
 -- how many events an undo of this name takes away: that event and all later ones
 abbrev pub undone : History → Name → ℕ
@@ -78,9 +123,9 @@ abbrev pub IsOutcome : History → Form → Event → Answer → Type 0
 IsOutcome h form BootStrap answer = answer ≡ Accepted
 IsOutcome h form (AddShell shell) answer = answer ≡ Accepted
 IsOutcome h form (Dcl name formals) answer = answer ≡ Accepted
-IsOutcome h form (Defn name formals body measures) answer = answer ≡ Accepted
+IsOutcome h form (Defn name formals body measures) answer = IsDefined (mentions name body) h form name formals body measures answer
 IsOutcome h form (AddAxiom name classes t) answer = answer ≡ Accepted
-IsOutcome h form (ProveLemma name classes t hints) answer = IsTried h form t answer
+IsOutcome h form (ProveLemma name classes t hints) answer = IsTried h form hints t answer
 IsOutcome h form (Toggle name old disabled) answer = answer ≡ Accepted
 IsOutcome h form (Undo name) answer = answer ≡ Undone (undone h name)
 IsOutcome h form PassedOver answer = answer ≡ Skipped
@@ -89,21 +134,49 @@ abbrev pub AnswersUnless : Option Answer → History → Form → Event → Answ
 AnswersUnless (Some refusal) h form event answer = answer ≡ refusal
 AnswersUnless None h form event answer = IsOutcome h form event answer
 
--- the answers that a form may get: a refusal exactly where one applies
+-- the answers that a form may get: its first refusal exactly where one applies, and 9 only where none does
 abbrev pub Answers : History → Form → Answer → Type 0
 Answers h form answer = AnswersUnless (refusal_of h form) h form (event_of h form) answer
 
 -- whether an event of this answer was taken: accepted, proved or undone
 abbrev pub is_taken : Answer → Bool
 is_taken Accepted = true
+is_taken (AcceptedBy place measure) = true
 is_taken (Undone count) = true
 is_taken (Proved quick) = true
+is_taken (ProvedFrom goal steps) = true
+is_taken (Failed goal steps cause) = false
+is_taken OutOfSteps = false
 is_taken Skipped = false
 is_taken (Refused code words) = false
 
+-- the measures that are tried of an event
+abbrev pub measures_of : Event → List Term
+measures_of BootStrap = []
+measures_of (AddShell shell) = []
+measures_of (Dcl name formals) = []
+measures_of (Defn name formals body measures) = tried_measures formals measures
+measures_of (AddAxiom name classes t) = []
+measures_of (ProveLemma name classes t hints) = []
+measures_of (Toggle name old disabled) = []
+measures_of (Undo name) = []
+measures_of PassedOver = []
+
+-- the measure of an event by its answer
+abbrev pub measure_by : Event → Answer → Option Term
+measure_by event Accepted = None
+measure_by event (AcceptedBy place measure) = slice_get (measures_of event) place
+measure_by event (Undone count) = None
+measure_by event (Proved quick) = None
+measure_by event (ProvedFrom goal steps) = None
+measure_by event (Failed goal steps cause) = None
+measure_by event OutOfSteps = None
+measure_by event Skipped = None
+measure_by event (Refused code words) = None
+
 -- the history after an event and its answer
 abbrev pub after_event : History → Event → Answer → History
-after_event h event answer = if is_taken answer then history_after h event None else h
+after_event h event answer = if is_taken answer then history_after h event (measure_by event answer) else h
 
 abbrev pub after : History → Form → Answer → History
 after h form answer = after_event h (event_of h form) answer

@@ -4,7 +4,7 @@
 //! `specs/Claims` says what a run claims in its log, and `specs/Derived` what holds of its events.
 #![tactic(auto)]
 
-ghost use Rattle.nq_answers.specs.Laws.{RunsAreBuilt, RunsAreDerived, RunsAreOne, StepsAreOne};
+ghost use Rattle.nq_answers.specs.Laws.{RunsAreDerived, RunsAreOne, StepsAreOne};
 
 /// Each lemma that a run reports as proved is derivable, and each event that it accepts meets its principle, in the history
 /// just before it; and each event that stands at its end holds.
@@ -12,12 +12,8 @@ pub fn runs_are_derived()
     ensures { RunsAreDerived }
 {}
 
-/// What a run claims stands in lines that the checker allows.
-pub fn runs_are_built()
-    ensures { RunsAreBuilt }
-{}
-
-/// A run has one list of reports, and one history at its end: each form has one answer in a history, whichever prover is asked.
+/// Reports lead to one history, and lists of reports of the same forms differ first where the prover decides: at a definition that
+/// calls its own function, or at a lemma in no fragment.
 pub fn runs_are_one()
     ensures steps { StepsAreOne }
     ensures runs { RunsAreOne }

@@ -25,13 +25,12 @@ use Rattle.nq_logic.specs.Admissible.{mentions, has_variables}
 use Rattle.nq_bank.specs.declared.node.Sym.{Sym}
 use Rattle.nq_bank.specs.Shells.{texts_at}
 use Rattle.nq_block.proofs.Spelling.{run_read}
-use Rattle.nq_log.specs.Built.{IsBuilt, is_built_claim}
 use Rattle.nq_log.specs.Logs.{step, claimed}
 use Rattle.nq_log.proofs.Options.{bound, found_same}
 use Rattle.nq_block.specs.declared.writer.Writer.{Writer}
 use Rattle.nq_block.specs.Blocks.{IsBlock}
 use Rattle.nq_block.specs.Closings.{IsFree, CanAssume, CanShow, CanDefine, CanToggle}
-use Rattle.nq_block.specs.Writing.{Frame, state_of, line_clause, are_built_ahead, are_built_parts, is_built_function, IsWriting, IsWritten, IsVariableWritten, AddsLine, number_in}
+use Rattle.nq_block.specs.Writing.{Frame, state_of, line_clause, IsWriting, IsWritten, IsVariableWritten, AddsLine, number_in}
 use Rattle.nq_block.proofs.Leading.{leads_out}
 use Rattle.nq_block.proofs.Named.{spelled_name, of_events, event_named}
 use Rattle.nq_block.proofs.RuleLemmas.{after, term_number, term_fits, names_found, names_fit}
@@ -72,18 +71,15 @@ module _ (bank : Content) (frame : Frame) (old new : Writer) (v : IsWriting bank
       ∙ ap (λ b. b && not (is_in_use x frame.history)) can.room
       ∙ ap not can.unused
 
-  ahead : are_built_ahead s.block ≡ true
-  ahead = ap (λ (o : Option Symbol). is_built_function o && are_built_parts frame.parts) alone ∙ ap are_built_parts parts
-
-  pub closed : (line : Line) (c : Claim) → IsSpellable line → (is_built_claim c ≡ true → IsBuilt line) → step s line ≡ Some (Claims c) → AddsLine line old new → IsBlock frame.history c new.text
-  closed line c spellable built taken adds =
-      subst (IsBlock frame.history c) (sym (ap (λ (w : Writer). w.text) adds)) (leads_out old.text s line c v.leads spellable (λ e. (ahead, built e)) taken)
+  pub closed : (line : Line) (c : Claim) → IsSpellable line → step s line ≡ Some (Claims c) → AddsLine line old new → IsBlock frame.history c new.text
+  closed line c spellable taken adds =
+      subst (IsBlock frame.history c) (sym (ap (λ (w : Writer). w.text) adds)) (leads_out old.text s line c v.leads spellable taken)
 
   claimed_when : (b : Bool) (c : Claim) → b ≡ true → claimed (only_when b c) ≡ Some (Claims c)
   claimed_when b c e = ap (λ b. claimed (only_when b c)) e
 
   pub bootstrap_closed : AddsLine (after word.BootStrap []) old new → IsBlock frame.history Grounded new.text
-  bootstrap_closed adds = closed (after word.BootStrap []) Grounded tt (λ e. e) (claimed_when (is_plain s.block) Grounded plain) adds
+  bootstrap_closed adds = closed (after word.BootStrap []) Grounded tt (claimed_when (is_plain s.block) Grounded plain) adds
 
   pub lemma_closed : (x : Name) (t : TermId) (l n : ℕ) → l < 2 ^ 64 → IsWritten old t → n ≡ number_in old.terms t.0 → CanShow frame.history x (term_at bank t) (line_clause frame l) →
       AddsLine (after word.Lemma (name x ∷ number n ∷ number l ∷ [])) old new → IsBlock frame.history (Adds (Lemma x [] (term_at bank t))) new.text
@@ -96,7 +92,7 @@ module _ (bank : Content) (frame : Frame) (old new : Writer) (v : IsWriting bank
       ∙ ap (λ b. claimed (only_when (b && is_small u && has_only (line_clause frame l) (u ∷ [])) c)) (free x can.free)
       ∙ ap (λ b. claimed (only_when (b && has_only (line_clause frame l) (u ∷ [])) c)) can.claimable.small
       ∙ claimed_when (has_only (line_clause frame l) (u ∷ [])) c can.only in
-      closed (after word.Lemma (name x ∷ number k ∷ number l ∷ [])) c (can.free.symbol, (term_fits bank frame old v t written, (fits, tt))) (λ e. e) taken
+      closed (after word.Lemma (name x ∷ number k ∷ number l ∷ [])) c (can.free.symbol, (term_fits bank frame old v t written, (fits, tt))) taken
       (subst (λ n. AddsLine (after word.Lemma (name x ∷ number n ∷ number l ∷ [])) old new) same adds)
 
   pub axiom_closed : (x : Name) (t : TermId) (n : ℕ) → IsWritten old t → n ≡ number_in old.terms t.0 → CanAssume frame.history x (term_at bank t) →
@@ -109,7 +105,7 @@ module _ (bank : Content) (frame : Frame) (old new : Writer) (v : IsWriting bank
       ap (λ (o : Option Term). claimed (o >>= λ t. only_when (is_free s x && is_small t) (Adds (Axiom x [] t)))) (term_number bank frame old v t written)
       ∙ ap (λ b. claimed (only_when (b && is_small u) c)) (free x can.free)
       ∙ claimed_when (is_small u) c can.claimable.small in
-      closed (after word.Axiomatize (name x ∷ number k ∷ [])) c (can.free.symbol, (term_fits bank frame old v t written, tt)) (λ e. e) taken
+      closed (after word.Axiomatize (name x ∷ number k ∷ [])) c (can.free.symbol, (term_fits bank frame old v t written, tt)) taken
       (subst (λ n. AddsLine (after word.Axiomatize (name x ∷ number n ∷ [])) old new) same adds)
 
   pub declaration_closed : (x : Name) (k : ℕ) → k < 2 ^ 32 → IsFree frame.history x → AddsLine (after word.Dcl (name x ∷ number k ∷ [])) old new → IsBlock frame.history (Adds (Declaration x k)) new.text
@@ -117,7 +113,7 @@ module _ (bank : Content) (frame : Frame) (old new : Writer) (v : IsWriting bank
       let c : Claim = Adds (Declaration x k) in
       let taken : step s (after word.Dcl (name x ∷ number k ∷ [])) ≡ Some (Claims c) =
       ap (λ b. claimed (only_when (b && nat_lt k (2 ^ 32)) c)) (free x can) ∙ claimed_when (nat_lt k (2 ^ 32)) c (lt-ltb k (2 ^ 32) fits) in
-      closed (after word.Dcl (name x ∷ number k ∷ [])) c (can.symbol, (omega (arith, fits), tt)) (λ e. e) taken adds
+      closed (after word.Dcl (name x ∷ number k ∷ [])) c (can.symbol, (omega (arith, fits), tt)) taken adds
 
   found_event : (x : Name) (h : List Event) → is_some (event_in x h) ≡ true → (e : Event) × (event_in x h ≡ Some e)
   found_event x h e = by_found (event_in x h) refl e
@@ -139,7 +135,7 @@ module _ (bank : Content) (frame : Frame) (old new : Writer) (v : IsWriting bank
       ap (λ b. claimed (only_when (b && is_some (looked_up y frame.history) && nat_lt (digit disabled) 2) (Adds (Toggle x y (digit disabled == 1))))) (free x can.free)
       ∙ ap (λ b. claimed (only_when (b && nat_lt (digit disabled) 2) (Adds (Toggle x y (digit disabled == 1))))) can.event
       ∙ told disabled in
-      closed (after word.Toggle (fields (digit disabled))) c (can.free.symbol, (looked_up_spelled y can.event, (small disabled, tt))) (λ e. e) taken
+      closed (after word.Toggle (fields (digit disabled))) c (can.free.symbol, (looked_up_spelled y can.event, (small disabled, tt))) taken
       (subst (λ d. AddsLine (after word.Toggle (fields d)) old new) same adds)
     where
       told : (b : Bool) → claimed (only_when (nat_lt (digit b) 2) (Adds (Toggle x y (digit b == 1)))) ≡ Some (Claims (Adds (Toggle x y b)))
@@ -156,7 +152,7 @@ module _ (bank : Content) (frame : Frame) (old new : Writer) (v : IsWriting bank
       let taken : step s (after word.Undo (name x ∷ [])) ≡ Some (Claims c) =
       ap (λ b. claimed (only_when (b && is_some (event_in x frame.history)) c)) plain ∙ claimed_when (is_some (event_in x frame.history)) c found in
       let e = found_event x frame.history found in
-      closed (after word.Undo (name x ∷ [])) c (spelled_name frame.history x v.names (of_events frame.history x (event_named x frame.history e.0 e.1)), tt) (λ e. e) taken adds
+      closed (after word.Undo (name x ∷ [])) c (spelled_name frame.history x v.names (of_events frame.history x (event_named x frame.history e.0 e.1)), tt) taken adds
 
   pub definition_closed : (x : Name) (names : List Sym) (t : TermId) (n : ℕ) (ns : List ℕ) → IsWritten old t → n ≡ number_in old.terms t.0 → All (IsVariableWritten old) names → ns ≡ map (λ s. number_in old.variables s.0) names →
       CanDefine frame.history x (texts_at bank names) (term_at bank t) → AddsLine (after word.Defn (name x ∷ number n ∷ flat_map one_number ns)) old new →
@@ -189,6 +185,6 @@ module _ (bank : Content) (frame : Frame) (old new : Writer) (v : IsWriting bank
       ∙ ap (λ b. claimed (only_when (b && is_small u && tail) c)) (lt-ltb (length xs) (2 ^ 32) can.count)
       ∙ ap (λ b. claimed (only_when (b && tail) c)) can.claimable.small
       ∙ claimed_when tail c right in
-      closed (after word.Defn (name x ∷ number k ∷ flat_map one_number ms)) c (can.free.symbol, (term_fits bank frame old v t written, names_fit bank frame old v names all_written)) (λ e. e) taken
+      closed (after word.Defn (name x ∷ number k ∷ flat_map one_number ms)) c (can.free.symbol, (term_fits bank frame old v t written, names_fit bank frame old v names all_written)) taken
       (subst (λ n. AddsLine (after word.Defn (name x ∷ number n ∷ flat_map one_number ms)) old new) same_body
       (subst (λ ns. AddsLine (after word.Defn (name x ∷ number n ∷ flat_map one_number ns)) old new) same_formals adds))

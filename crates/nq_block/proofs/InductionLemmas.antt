@@ -20,7 +20,6 @@ use Rattle.nq_proof.specs.Rules.{Hypothesis, CaseLines, Rule, Induct, conclusion
 use Rattle.nq_log.specs.Sizes.{are_shallow}
 use Rattle.nq_log.specs.States.{CaseLine, CaseOf, HypothesisOf, Block, State, Continues, is_empty, only_when, numbered, has_line, has_term_at, term_at as block_term_at, variable_of, variable_at}
 use Rattle.nq_log.specs.RuleLines.{induct_rule, cases_at, with_case as with_case_line, have_terms, substitution_at as block_substitution_at, grouped}
-use Rattle.nq_log.specs.Built.{IsBuilt}
 use Rattle.nq_log.specs.Logs.{step, continued}
 use Rattle.nq_block.specs.declared.writer.Writer.{Writer}
 use Rattle.nq_kernel.specs.Over.{IsVariable, IsTermOf, pair_names, hypothesis_names, case_names}
@@ -62,14 +61,14 @@ module _ (bank : Content) (frame : Frame) (old new : Writer) (v : IsWriting bank
   s = state_of frame v.waiting v.terms
 
   -- a line that makes more wait
-  waits : (cases : List CaseLines) (line : Line) (more : CaseLine) → IsSpellable line → IsBuilt line → step s line ≡ Some (Continues (block_of frame (v.waiting ++ (more ∷ [])) v.terms)) →
+  waits : (cases : List CaseLines) (line : Line) (more : CaseLine) → IsSpellable line → step s line ≡ Some (Continues (block_of frame (v.waiting ++ (more ∷ [])) v.terms)) →
       grouped s.block (v.waiting ++ (more ∷ [])) ≡ Some ([], cases) → AddsLine line old new → IsWriting bank (record frame { cases = cases }) new
-  waits cases line more spellable built taken groups adds =
+  waits cases line more spellable taken groups adds =
       let grown : IsWriting bank (record frame { cases = cases }) (record old { text = old.text ++ line_text line }) =
       record {
         terms = v.terms;
         waiting = v.waiting ++ (more ∷ []);
-        leads = leads_on old.text s line (block_of frame (v.waiting ++ (more ∷ [])) v.terms) v.leads spellable (λ e. (e, built)) taken;
+        leads = leads_on old.text s line (block_of frame (v.waiting ++ (more ∷ [])) v.terms) v.leads spellable taken;
         cases = groups;
         count = v.count;
         fits = v.fits;
@@ -89,7 +88,7 @@ module _ (bank : Content) (frame : Frame) (old new : Writer) (v : IsWriting bank
       let taken : step s (after word.Case (number k ∷ number l ∷ [])) ≡ Some (Continues (block_of frame (v.waiting ++ (CaseOf k l ∷ [])) v.terms)) =
       ap (λ b. continued (only_when (b && has_line s.block l) (with_case_line s.block (CaseOf k l)))) (is_there s.block k (term_at bank t) found)
       ∙ ap (λ b. continued (only_when b (with_case_line s.block (CaseOf k l)))) line in
-      waits (frame.cases ++ (record { test = term_at bank t; step = l; hypotheses = [] } ∷ [])) (after word.Case (number k ∷ number l ∷ [])) (CaseOf k l) (term_fits bank frame old v t written, (fits, tt)) refl taken
+      waits (frame.cases ++ (record { test = term_at bank t; step = l; hypotheses = [] } ∷ [])) (after word.Case (number k ∷ number l ∷ [])) (CaseOf k l) (term_fits bank frame old v t written, (fits, tt)) taken
       (case_end s.block v.waiting k l (term_at bank t) ([], frame.cases) v.cases found)
       (subst (λ n. AddsLine (after word.Case (number n ∷ number l ∷ [])) old new) same adds)
 
@@ -107,7 +106,7 @@ module _ (bank : Content) (frame : Frame) (old new : Writer) (v : IsWriting bank
       ∙ ap (λ b. continued (only_when (b && have_terms s.block ns) (with_case_line s.block (HypothesisOf r ns)))) line
       ∙ ap (λ b. continued (only_when b (with_case_line s.block (HypothesisOf r ns)))) (terms_there s.block ns (substitution_at bank pairs) found) in
       let before : grouped s.block v.waiting ≡ Some ([], cases ++ (c ∷ [])) = v.cases ∙ ap (λ cs. Some ([], cs)) last in
-      waits (cases ++ (with_hypothesis c h ∷ [])) (after word.Hyp (number r ∷ flat_map of_binding ds)) (HypothesisOf r ns) (fits, pairs_spelled ds (bindings_fit bank frame old v pairs written)) refl taken
+      waits (cases ++ (with_hypothesis c h ∷ [])) (after word.Hyp (number r ∷ flat_map of_binding ds)) (HypothesisOf r ns) (fits, pairs_spelled ds (bindings_fit bank frame old v pairs written)) taken
       (hypothesis_end s.block v.waiting r ns (substitution_at bank pairs) c cases before found)
       (subst (λ bs. AddsLine (after word.Hyp (number r ∷ flat_map of_binding bs)) old new) same adds)
 
@@ -133,7 +132,7 @@ module _ (bank : Content) (frame : Frame) (old new : Writer) (v : IsWriting bank
       record {
         terms = v.terms;
         waiting = [];
-        leads = leads_on old.text s (after word.Induct fields) (block_of (with_line frame c) [] v.terms) v.leads (term_fits bank frame old v p first, (term_fits bank frame old v m second, (o_fits, (b_fits, tt)))) (λ e. (e, refl)) taken;
+        leads = leads_on old.text s (after word.Induct fields) (block_of (with_line frame c) [] v.terms) v.leads (term_fits bank frame old v p first, (term_fits bank frame old v m second, (o_fits, (b_fits, tt)))) taken;
         cases = refl;
         count = v.count;
         fits = v.fits;

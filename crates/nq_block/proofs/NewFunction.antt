@@ -10,7 +10,7 @@ use Rattle.nq_logic.specs.Names.{events_names, has_name, is_reserved, is_in_use}
 use Rattle.nq_logic.specs.Admissible.{mentions}
 use Rattle.nq_logic.proofs.Lists.{among_right}
 use Rattle.nq_logic.proofs.Tests.{names_found_law, true_not_false}
-use Rattle.nq_kernel.specs.Over.{VariablesAre, IsTermOf, IsVariable}
+use Rattle.nq_kernel.specs.Over.{IsTermOf, IsVariable}
 use Rattle.nq_log.specs.States.{introduced_symbols}
 use Rattle.nq_log.specs.RuleLines.{are_without}
 use Rattle.nq_log.proofs.Options.{neither_right}

@@ -1,24 +1,21 @@
 -- A log that is written from its front.
-use Rattle.std.proofs.Common.{◌≡◌, ℕ, true, List, [], ◌∷◌, ◌++◌, Option, Some, None, refl, sym, ap, ◌∙◌, subst, append_assoc, append-nil}
+use Rattle.std.proofs.Common.{◌≡◌, ℕ, List, [], ◌∷◌, ◌++◌, Option, Some, None, refl, sym, ap, ◌∙◌, subst, append_assoc, append-nil}
 use Rattle.nq_logtext.specs.Lines.{Line, IsSpellable}
 use Rattle.nq_logic.specs.Terms.{Each}
 use Rattle.nq_logic.specs.Histories.{History}
 use Rattle.nq_logic.specs.Classes.{without_classes}
 use Rattle.nq_logic.proofs.Lists.{each_append}
-use Rattle.nq_proof.proofs.TermTests.{each_left, each_right}
 use Rattle.nq_log.specs.States.{Block, State, Claim, after_claim, start_of, Step, Continues, Claims, Ends}
-use Rattle.nq_log.specs.Logs.{step, reading_by, reading_of}
+use Rattle.nq_log.specs.Logs.{step, reading_of}
 use Rattle.nq_log.specs.Blocks.{block_claim, claim_at_end, header_line, end_line, lines_text, lines_of, log_text}
-use Rattle.nq_log.specs.Stage.{built_step}
-use Rattle.nq_log.specs.Built.{IsBuilt, is_built_claim}
 use Rattle.nq_log.specs.Growing.{history_after}
 use Rattle.nq_log.proofs.Growing.{one_more_block_law, more_text_law}
-use Rattle.nq_log.proofs.Texts.{one_log_law, built_log_law}
+use Rattle.nq_log.proofs.Texts.{one_log_law}
 use Rattle.nq_log.proofs.RuleClasses.{steps_ignore_classes_law}
-use Rattle.nq_block.specs.OpenLogs.{joined, end_text, IsOpenLog, LogBegins, BlockFollows, LogEnds, BuiltLogEnds}
+use Rattle.nq_block.specs.OpenLogs.{joined, end_text, IsOpenLog, LogBegins, BlockFollows, LogEnds}
 
 pub log_begins_law : LogBegins
-log_begins_law = record { blocks = []; spellable = tt; reads = refl; claimed = refl; makes = refl; built = λ all. tt }
+log_begins_law = record { blocks = []; spellable = tt; reads = refl; claimed = refl; makes = refl }
 
 -- rule classes change nothing of what a block claims
 abbrev claim_by : State → List Line → Option Step → Option Claim
@@ -64,9 +61,6 @@ block_follows_law text more claims h g c log block same =
           ∙ ap (λ lines. lines_text (header_line ∷ lines)) (sym (joined_more log.blocks block.lines));
       claimed = one_more_block_law [] log.blocks claims block.lines c log.claimed there;
       makes = history_more [] claims c ∙ ap (λ k. after_claim k c) log.makes;
-      built = λ all.
-          let last = each_right (λ c. is_built_claim c ≡ true) claims (c ∷ []) all in
-          each_append (Each IsBuilt) log.blocks (block.lines ∷ []) (log.built (each_left (λ c. is_built_claim c ≡ true) claims (c ∷ []) all)) (block.built last.0, tt);
     }
 
 lines_end : (blocks : List (List Line)) → joined blocks ++ (end_line ∷ []) ≡ lines_of blocks
@@ -82,6 +76,3 @@ text_ends text claims h log =
 
 pub log_ends_law : LogEnds
 log_ends_law text claims h log = ap reading_of (text_ends text claims h log) ∙ one_log_law log.blocks claims log.spellable log.claimed
-
-pub built_log_ends_law : BuiltLogEnds
-built_log_ends_law text claims h log all = ap (reading_by built_step) (text_ends text claims h log) ∙ built_log_law log.blocks claims log.spellable (log.built all) log.claimed

@@ -1,21 +1,21 @@
 -- The lines of a recursive definition, written: that of its function before the block, and its measure and its own after it.
-use Rattle.std.proofs.Common.{◌≡◌, ℕ, ◌<◌, ◌^◌, ◌==◌, ◌&&◌, Bool, true, false, Option, Some, None, zero, List, [], ◌∷◌, ◌++◌, map, length, refl, sym, ap, ◌∙◌, subst, arith}
+use Rattle.std.proofs.Common.{◌≡◌, ℕ, ◌<◌, ◌^◌, ◌==◌, ◌&&◌, Bool, true, Option, Some, None, zero, List, [], ◌∷◌, ◌++◌, length, refl, sym, ap, ◌∙◌, subst, arith}
 use Rattle.std.proofs.lemmas.Bool.{lt-ltb}
 use Rattle.std.proofs.lemmas.Bool.Decides.{Decides-eqb}
 use Rattle.std.proofs.lemmas.Slice.Eq.{bytes_eq-Decides}
 use Rattle.std.specs.Prelude.{nat_eq, nat_lt, All, not, is_some, bytes_eq}
 use Rattle.std.specs.List.{flat_map}
 use Rattle.std.specs.HashMap.{get}
-use Rattle.nq_logtext.specs.Fields.{Field, number, name, of_number}
-use Rattle.nq_logtext.specs.Lines.{Line, HasKinds}
+use Rattle.nq_logtext.specs.Fields.{number, name, of_number}
+use Rattle.nq_logtext.specs.Lines.{HasKinds}
 use Rattle.nq_logtext.specs.Reading.{◌>>=◌}
 use Rattle.nq_logtext.specs.Views.{one_number}
 use Rattle.nq_logtext.specs.declared.word.Word.TheVariants as word
-use Rattle.nq_logic.specs.Terms.{Name, Symbol, Term, Each, substituted}
+use Rattle.nq_logic.specs.Terms.{Name, Symbol, Term, Each}
 use Rattle.nq_logic.specs.Words.{call1}
-use Rattle.nq_logic.specs.Histories.{History, Part, Defines, Definition}
+use Rattle.nq_logic.specs.Histories.{History, Part, Defines}
 use Rattle.nq_logic.specs.Names.{are_distinct, is_in_use}
-use Rattle.nq_logic.specs.Admissible.{mentions, has_variables, Call, calls_of, matched, obligation}
+use Rattle.nq_logic.specs.Admissible.{mentions, has_variables, Call, calls_of, obligation}
 use Rattle.nq_bank.specs.declared.node.Sym.{Sym}
 use Rattle.nq_bank.specs.declared.node.TermId.{TermId}
 use Rattle.nq_bank.specs.Content.{Content, term_at}
@@ -23,23 +23,21 @@ use Rattle.nq_bank.specs.Shells.{texts_at}
 use Rattle.nq_bank.specs.Soundness.{IsSound}
 use Rattle.nq_bank.proofs.NodesLemmas.{All-head, All-tail}
 use Rattle.nq_proof.specs.Rules.{has_only}
-use Rattle.nq_proof.proofs.Tests.{and_left, and_right}
-use Rattle.nq_log.specs.States.{CaseLine, MeasureLine, Block, State, Claim, Claims, Adds, Continues, start_of, is_empty, only_when, clause_at, has_line, have_lines, has_term_at, term_at as block_term_at, variables_at}
+use Rattle.nq_log.specs.States.{CaseLine, MeasureLine, Block, State, Claim, Claims, Adds, Continues, start_of, is_empty, only_when, has_line, have_lines, has_term_at, term_at as block_term_at, variables_at}
 use Rattle.nq_log.specs.Fields.{numbers_in as numbers_read}
 use Rattle.nq_log.specs.Sizes.{is_small}
-use Rattle.nq_log.specs.ClosingLines.{has_room, introduces, are_falls, is_measure, is_measured, is_definition, given_measure, new_definition}
-use Rattle.nq_log.specs.Stage.{is_built_word}
+use Rattle.nq_log.specs.ClosingLines.{has_room, introduces, are_falls, is_measure, is_measured, is_definition, new_definition}
 use Rattle.nq_log.specs.Logs.{step, continued, claimed}
 use Rattle.nq_block.specs.declared.writer.Writer.{Writer}
 use Rattle.nq_block.specs.Names.{HasSymbols}
 use Rattle.nq_block.specs.Blocks.{IsBlock}
 use Rattle.nq_block.specs.declared.closing.Closing.{Closing}
-use Rattle.nq_block.specs.Closings.{IsFall, AreFalls, CanRecur, introduced_by}
-use Rattle.nq_block.specs.Writing.{Frame, state_of, line_clause, frame_at_start, are_built_ahead, are_built_parts, is_built_function, IsNew, IsNewFunction, IsFresh, IsWriting, IsWritten, IsVariableWritten, LeadsTo, AddsLine, line_text, function_line, measure_line, number_in}
+use Rattle.nq_block.specs.Closings.{AreFalls, CanRecur, introduced_by}
+use Rattle.nq_block.specs.Writing.{Frame, state_of, line_clause, frame_at_start, IsNew, IsNewFunction, IsFresh, IsWriting, LeadsTo, AddsLine, line_text, function_line, measure_line}
 use Rattle.nq_block.proofs.Leading.{leads_first, leads_on, leads_out}
 use Rattle.nq_block.proofs.NewFunction.{not_mentioned}
 use Rattle.nq_block.proofs.Spelling.{run_read, run_spelled}
-use Rattle.nq_block.proofs.RuleLemmas.{after, term_number, term_fits, names_found, names_fit}
+use Rattle.nq_block.proofs.RuleLemmas.{after}
 use Rattle.nq_block.proofs.InductionLemmas.{shown_line}
 use Rattle.nq_block.proofs.ClosingLines.{nothing_waits}
 
@@ -87,16 +85,13 @@ function_begun bank h f k old new sound names none can adds =
     let taken : step (start_of h) line ≡ Some (Continues block) =
     ap (λ b. continued (only_when (not b && nat_lt k (2 ^ 32)) block)) can.free.unused ∙ ap (λ b. continued (only_when b block)) (lt-ltb k (2 ^ 32) can.arity) in
     let first : LeadsTo old.text (start_of h) = subst (λ t. LeadsTo t (start_of h)) (sym none.text) (leads_first h) in
-    let leads : LeadsTo (old.text ++ line_text line) (state_of (frame_at_start h (Some (f, k))) [] []) = leads_on old.text (start_of h) line block first (can.free.symbol, (fits, tt)) (λ e. (refl, built (is_built_word word.Function) e)) taken in
+    let leads : LeadsTo (old.text ++ line_text line) (state_of (frame_at_start h (Some (f, k))) [] []) = leads_on old.text (start_of h) line block first (can.free.symbol, (fits, tt)) taken in
     let text : new.text ≡ old.text ++ line_text line = ap (λ (w : Writer). w.text) adds in
     let with_text : List ℕ → Writer = λ t. record old { text = t } in
     at_start bank h (Some (f, k)) old new sound names can none (adds ∙ ap with_text (sym text)) (subst (λ t. LeadsTo t (state_of (frame_at_start h (Some (f, k))) [] [])) (sym text) leads)
   where
     fits : k < 2 ^ 64
     fits = let e = can.arity in omega (arith, e)
-
-    built : (b : Bool) → b && true ≡ true → b ≡ true
-    built b e = and_left b true e
 
 -- ---- the last two lines
 
@@ -125,11 +120,6 @@ falls_there frame waiting terms f xs m (c ∷ calls) (r ∷ rs) falls =
 each_fits : (rs : List ℕ) → All (λ r. r < 2 ^ 64) rs → Each (λ r. r < 2 ^ 64) rs
 each_fits [] fit = tt
 each_fits (r ∷ rs) fit = (All-head (λ r. r < 2 ^ 64) r rs fit, each_fits rs (All-tail (λ r. r < 2 ^ 64) r rs fit))
-
--- the lines before a line of a measure are built where it is
-measure_ahead : (m f p : Bool) → m && f && p ≡ true → (f && p ≡ true) × (m ≡ true)
-measure_ahead true f p e = (e, refl)
-measure_ahead false f p e = absurd cc
 
 module _ (bank : Content) (frame : Frame) (old mid new : Writer) (v : IsWriting bank frame old) (x : Name) (names : List Sym) (t m : TermId) (o : ℕ) (rs : List ℕ)
     (can : CanRecur frame.history (line_clause frame) x (texts_at bank names) (term_at bank t) (term_at bank m) o rs) where
@@ -163,8 +153,7 @@ module _ (bank : Content) (frame : Frame) (old mid new : Writer) (v : IsWriting 
   measure_led k found k_fits o_fits fit adds =
       let line = measure_line k o rs in
       subst (λ t. LeadsTo t (measured k)) (sym (ap (λ (w : Writer). w.text) adds))
-      (leads_on old.text s line (measured k).block v.leads (k_fits, (o_fits, run_spelled rs (each_fits rs fit)))
-      (measure_ahead (is_built_word word.Measure) (is_built_function frame.introduced) (are_built_parts frame.parts)) (measure_taken k found))
+      (leads_on old.text s line (measured k).block v.leads (k_fits, (o_fits, run_spelled rs (each_fits rs fit))) (measure_taken k found))
 
   -- what the definition of a right log asks of the definition
   is_right : (k : ℕ) → frame.introduced ≡ Some (x, length xs) → block_term_at s.block k ≡ Some measure → is_definition (measured k) x xs body ≡ true
@@ -222,16 +211,4 @@ module _ (bank : Content) (frame : Frame) (old mid new : Writer) (v : IsWriting 
   definition_closed n k ns introduced parts cases found found_body found_names n_fits ns_fit leads adds =
       let line = after word.Defn (name x ∷ number n ∷ flat_map one_number ns) in
       subst (IsBlock frame.history claim) (sym (ap (λ (w : Writer). w.text) adds))
-      (leads_out mid.text (measured k) line claim leads (can.free.symbol, (n_fits, ns_fit)) (λ e. (ahead e, and_left (is_built_word word.Defn) (is_built_word word.Function && is_built_word word.Measure) e)) (definition_taken n k ns introduced parts cases found found_body found_names))
-    where
-      all_built : (f m : Bool) → f && m ≡ true → m && f && true ≡ true
-      all_built true true e = refl
-      all_built true false e = absurd cc
-      all_built false m e = absurd cc
-
-      ahead : is_built_word word.Defn && (is_built_word word.Function && is_built_word word.Measure) ≡ true → are_built_ahead (measured k).block ≡ true
-      ahead e =
-          let both = and_right (is_built_word word.Defn) (is_built_word word.Function && is_built_word word.Measure) e in
-          ap (λ (i : Option Symbol). is_built_word word.Measure && is_built_function i && are_built_parts frame.parts) introduced
-          ∙ ap (λ (ps : List Part). is_built_word word.Measure && is_built_word word.Function && are_built_parts ps) parts
-          ∙ all_built (is_built_word word.Function) (is_built_word word.Measure) both
+      (leads_out mid.text (measured k) line claim leads (can.free.symbol, (n_fits, ns_fit)) (definition_taken n k ns introduced parts cases found found_body found_names))

@@ -21,12 +21,11 @@ use Rattle.nq_clause.specs.declared.substitution.Pair.{Pair}
 use Rattle.nq_clause.specs.Substitution.{substitution_at}
 use Rattle.nq_proof.specs.Clauses.{Clause, distinct}
 use Rattle.nq_proof.specs.Rows.{axiom_clause}
-use Rattle.nq_proof.specs.Rules.{Rule, Taut, AxiomRow, EventTerm, Weaken, Cut, Instance, Reflexive, Replace, Join, SplitFirst, SplitSecond, NotNot, Value, conclusion, event_term}
+use Rattle.nq_proof.specs.Rules.{Rule, Taut, AxiomRow, EventTerm, Weaken, Cut, Instance, Reflexive, Replace, Join, SplitFirst, SplitSecond, NotNot, Value, event_term}
 use Rattle.nq_proof.proofs.Tests.{given_some}
 use Rattle.nq_log.specs.Sizes.{are_shallow}
 use Rattle.nq_log.specs.States.{Block, term_at as block_term_at, terms_at as block_terms_at, variables_at}
 use Rattle.nq_log.specs.RuleLines.{rule_line, side_of, substitution_at as block_substitution_at, taut_rule, weaken_rule, instance_rule, replace_rule, join_rule}
-use Rattle.nq_log.specs.Built.{IsBuilt}
 use Rattle.nq_log.specs.Logs.{step, continued}
 use Rattle.nq_block.specs.declared.writer.Writer.{Writer}
 use Rattle.nq_block.specs.Writing.{Frame, Concludes as ConcludesIn, block_of, state_of, line_clause, with_line, IsWriting, IsWritten, IsVariableWritten, IsPairWritten, AddsLine, number_in, binding_in, term_of, variable_of}
@@ -103,10 +102,10 @@ module _ (bank : Content) (frame : Frame) (old new : Writer) (c : Clause) (v : I
   abbrev block : Block
   block = block_of frame v.waiting v.terms
 
-  pub rule_written : (line : Line) (read : Option Rule) (rule : Rule) → IsSpellable line → IsBuilt line → step (state_of frame v.waiting v.terms) line ≡ continued (rule_line (state_of frame v.waiting v.terms) read) →
+  pub rule_written : (line : Line) (read : Option Rule) (rule : Rule) → IsSpellable line → step (state_of frame v.waiting v.terms) line ≡ continued (rule_line (state_of frame v.waiting v.terms) read) →
       read ≡ Some rule → Concludes rule → AddsLine line old new → IsWriting bank (with_line frame c) new
-  rule_written line read rule spellable built stepped is concluded adds =
-      line_written bank frame old new line v c spellable built (stepped ∙ rule_step frame v.waiting v.terms read rule c is concluded low) adds
+  rule_written line read rule spellable stepped is concluded adds =
+      line_written bank frame old new line v c spellable (stepped ∙ rule_step frame v.waiting v.terms read rule c is concluded low) adds
 
   pub taut_written : (ids : List TermId) (ns : List ℕ) → AreWritten old.terms ids → ns ≡ numbers_in old.terms ids → Concludes (Taut (terms_at bank ids)) →
       AddsLine (after word.Taut (flat_map one_number ns)) old new → IsWriting bank (with_line frame c) new
@@ -116,7 +115,7 @@ module _ (bank : Content) (frame : Frame) (old new : Writer) (c : Clause) (v : I
       let read : taut_rule block fields ≡ Some (Taut (terms_at bank ids)) =
       ap (λ (o : Option (List ℕ)). o >>= λ ns. block_terms_at block ns >>= λ ts. Some (Taut ts)) (run_read ms)
       ∙ ap (λ (o : Option (List Term)). o >>= λ ts. Some (Taut ts)) (run_terms bank frame old v ids written) in
-      rule_written (after word.Taut fields) (taut_rule block fields) (Taut (terms_at bank ids)) (run_fits bank frame old v ids written) refl refl read concluded
+      rule_written (after word.Taut fields) (taut_rule block fields) (Taut (terms_at bank ids)) (run_fits bank frame old v ids written) refl read concluded
       (subst (λ ns. AddsLine (after word.Taut (flat_map one_number ns)) old new) same adds)
 
   pub weaken_written : (l : ℕ) (ids : List TermId) (ns : List ℕ) → l < 2 ^ 64 → AreWritten old.terms ids → ns ≡ numbers_in old.terms ids → Concludes (Weaken l (terms_at bank ids)) →
@@ -127,26 +126,26 @@ module _ (bank : Content) (frame : Frame) (old new : Writer) (c : Clause) (v : I
       let read : weaken_rule block fields ≡ Some (Weaken l (terms_at bank ids)) =
       ap (λ (o : Option (List ℕ)). o >>= λ ns. block_terms_at block ns >>= λ ts. Some (Weaken l ts)) (run_read ms)
       ∙ ap (λ (o : Option (List Term)). o >>= λ ts. Some (Weaken l ts)) (run_terms bank frame old v ids written) in
-      rule_written (after word.Weaken fields) (weaken_rule block fields) (Weaken l (terms_at bank ids)) (fits, run_fits bank frame old v ids written) refl refl read concluded
+      rule_written (after word.Weaken fields) (weaken_rule block fields) (Weaken l (terms_at bank ids)) (fits, run_fits bank frame old v ids written) refl read concluded
       (subst (λ ns. AddsLine (after word.Weaken (number l ∷ flat_map one_number ns)) old new) same adds)
 
   pub axiom_written : (x : Name) (row i : ℕ) → row < 2 ^ 64 → i < 2 ^ 64 → Concludes (AxiomRow x row i) → AddsLine (after word.Axiom (name x ∷ number row ∷ number i ∷ [])) old new → IsWriting bank (with_line frame c) new
   axiom_written x row i row_fits fits concluded adds =
       let found = given_some (axiom_clause frame.history x row i) (λ c. Some (distinct c)) c concluded.clause in
       let spelled : IsTrue (is_symbol x) = spelled_name frame.history x v.names (axiom_named frame.history x row i found.0 found.1) in
-      rule_written (after word.Axiom (name x ∷ number row ∷ number i ∷ [])) (Some (AxiomRow x row i)) (AxiomRow x row i) (spelled, (row_fits, (fits, tt))) refl refl refl concluded adds
+      rule_written (after word.Axiom (name x ∷ number row ∷ number i ∷ [])) (Some (AxiomRow x row i)) (AxiomRow x row i) (spelled, (row_fits, (fits, tt))) refl refl concluded adds
 
   pub event_written : (x : Name) → Concludes (EventTerm x) → AddsLine (after word.Event (name x ∷ [])) old new → IsWriting bank (with_line frame c) new
   event_written x concluded adds =
       let found = given_some (event_term x frame.history) (λ t. Some (t ∷ [])) c concluded.clause in
       let spelled : IsTrue (is_symbol x) = spelled_name frame.history x v.names (of_events frame.history x (term_named x frame.history found.0 found.1)) in
-      rule_written (after word.Event (name x ∷ [])) (Some (EventTerm x)) (EventTerm x) (spelled, tt) refl refl refl concluded adds
+      rule_written (after word.Event (name x ∷ [])) (Some (EventTerm x)) (EventTerm x) (spelled, tt) refl refl concluded adds
 
   pub cut_written : (l m : ℕ) (t : TermId) (n : ℕ) → l < 2 ^ 64 → m < 2 ^ 64 → IsWritten old t → n ≡ number_in old.terms t.0 → Concludes (Cut l m (term_at bank t)) →
       AddsLine (after word.Cut (number l ∷ number m ∷ number n ∷ [])) old new → IsWriting bank (with_line frame c) new
   cut_written l m t n l_fits m_fits written same concluded adds =
       let k : ℕ = number_in old.terms t.0 in
-      rule_written (after word.Cut (number l ∷ number m ∷ number k ∷ [])) (block_term_at block k >>= λ t. Some (Cut l m t)) (Cut l m (term_at bank t)) (l_fits, (m_fits, (term_fits bank frame old v t written, tt))) refl refl
+      rule_written (after word.Cut (number l ∷ number m ∷ number k ∷ [])) (block_term_at block k >>= λ t. Some (Cut l m t)) (Cut l m (term_at bank t)) (l_fits, (m_fits, (term_fits bank frame old v t written, tt))) refl
       (ap (λ (o : Option Term). o >>= λ t. Some (Cut l m t)) (term_number bank frame old v t written)) concluded
       (subst (λ n. AddsLine (after word.Cut (number l ∷ number m ∷ number n ∷ [])) old new) same adds)
 
@@ -158,13 +157,13 @@ module _ (bank : Content) (frame : Frame) (old new : Writer) (c : Clause) (v : I
       let read : instance_rule block fields ≡ Some (Instance l (substitution_at bank pairs)) =
       ap (λ (o : Option (List (ℕ × ℕ))). o >>= λ pairs. block_substitution_at block pairs >>= λ s. Some (Instance l s)) (pairs_read cs)
       ∙ ap (λ (o : Option Substitution). o >>= λ s. Some (Instance l s)) (pairs_found bank frame old v pairs written) in
-      rule_written (after word.Inst fields) (instance_rule block fields) (Instance l (substitution_at bank pairs)) (fits, pairs_spelled cs (bindings_fit bank frame old v pairs written)) refl refl read concluded
+      rule_written (after word.Inst fields) (instance_rule block fields) (Instance l (substitution_at bank pairs)) (fits, pairs_spelled cs (bindings_fit bank frame old v pairs written)) refl read concluded
       (subst (λ bs. AddsLine (after word.Inst (number l ∷ flat_map of_binding bs)) old new) same adds)
 
   pub reflexive_written : (t : TermId) (n : ℕ) → IsWritten old t → n ≡ number_in old.terms t.0 → Concludes (Reflexive (term_at bank t)) → AddsLine (after word.Refl (number n ∷ [])) old new → IsWriting bank (with_line frame c) new
   reflexive_written t n written same concluded adds =
       let k : ℕ = number_in old.terms t.0 in
-      rule_written (after word.Refl (number k ∷ [])) (block_term_at block k >>= λ t. Some (Reflexive t)) (Reflexive (term_at bank t)) (term_fits bank frame old v t written, tt) refl refl
+      rule_written (after word.Refl (number k ∷ [])) (block_term_at block k >>= λ t. Some (Reflexive t)) (Reflexive (term_at bank t)) (term_fits bank frame old v t written, tt) refl
       (ap (λ (o : Option Term). o >>= λ t. Some (Reflexive t)) (term_number bank frame old v t written)) concluded
       (subst (λ n. AddsLine (after word.Refl (number n ∷ [])) old new) same adds)
 
@@ -185,24 +184,24 @@ module _ (bank : Content) (frame : Frame) (old new : Writer) (c : Clause) (v : I
       (subst (λ j. AddsLine (after word.Join (number l ∷ number m ∷ number i ∷ number j ∷ number yn ∷ [])) old new) of_x
       (subst (λ k. AddsLine (after word.Join (number l ∷ number m ∷ number i ∷ number j ∷ number k ∷ [])) old new) of_y adds)) in
       rule_written (after word.Join fields) (join_rule block fields) (Join l m (term_at bank p) (term_at bank x) (term_at bank y))
-      (l_fits, (m_fits, (term_fits bank frame old v p first, (term_fits bank frame old v x second, (term_fits bank frame old v y third, tt))))) refl refl read concluded whole
+      (l_fits, (m_fits, (term_fits bank frame old v p first, (term_fits bank frame old v x second, (term_fits bank frame old v y third, tt))))) refl read concluded whole
 
   pub first_split_written : (l k : ℕ) → l < 2 ^ 64 → k < 2 ^ 64 → Concludes (SplitFirst l k) → AddsLine (after word.Split (number l ∷ number k ∷ number 1 ∷ [])) old new → IsWriting bank (with_line frame c) new
   first_split_written l k l_fits k_fits concluded adds =
-      rule_written (after word.Split (number l ∷ number k ∷ number 1 ∷ [])) (Some (SplitFirst l k)) (SplitFirst l k) (l_fits, (k_fits, (omega arith, tt))) refl refl refl concluded adds
+      rule_written (after word.Split (number l ∷ number k ∷ number 1 ∷ [])) (Some (SplitFirst l k)) (SplitFirst l k) (l_fits, (k_fits, (omega arith, tt))) refl refl concluded adds
 
   pub second_split_written : (l k : ℕ) → l < 2 ^ 64 → k < 2 ^ 64 → Concludes (SplitSecond l k) → AddsLine (after word.Split (number l ∷ number k ∷ number 2 ∷ [])) old new → IsWriting bank (with_line frame c) new
   second_split_written l k l_fits k_fits concluded adds =
-      rule_written (after word.Split (number l ∷ number k ∷ number 2 ∷ [])) (Some (SplitSecond l k)) (SplitSecond l k) (l_fits, (k_fits, (omega arith, tt))) refl refl refl concluded adds
+      rule_written (after word.Split (number l ∷ number k ∷ number 2 ∷ [])) (Some (SplitSecond l k)) (SplitSecond l k) (l_fits, (k_fits, (omega arith, tt))) refl refl concluded adds
 
   pub not_not_written : (l k : ℕ) → l < 2 ^ 64 → k < 2 ^ 64 → Concludes (NotNot l k) → AddsLine (after word.NotNot (number l ∷ number k ∷ [])) old new → IsWriting bank (with_line frame c) new
   not_not_written l k l_fits k_fits concluded adds =
-      rule_written (after word.NotNot (number l ∷ number k ∷ [])) (Some (NotNot l k)) (NotNot l k) (l_fits, (k_fits, tt)) refl refl refl concluded adds
+      rule_written (after word.NotNot (number l ∷ number k ∷ [])) (Some (NotNot l k)) (NotNot l k) (l_fits, (k_fits, tt)) refl refl concluded adds
 
   pub value_written : (t : TermId) (n : ℕ) → IsWritten old t → n ≡ number_in old.terms t.0 → Concludes (Value (term_at bank t)) → AddsLine (after word.Value (number n ∷ [])) old new → IsWriting bank (with_line frame c) new
   value_written t n written same concluded adds =
       let k : ℕ = number_in old.terms t.0 in
-      rule_written (after word.Value (number k ∷ [])) (block_term_at block k >>= λ t. Some (Value t)) (Value (term_at bank t)) (term_fits bank frame old v t written, tt) refl refl
+      rule_written (after word.Value (number k ∷ [])) (block_term_at block k >>= λ t. Some (Value t)) (Value (term_at bank t)) (term_fits bank frame old v t written, tt) refl
       (ap (λ (o : Option Term). o >>= λ t. Some (Value t)) (term_number bank frame old v t written)) concluded
       (subst (λ n. AddsLine (after word.Value (number n ∷ [])) old new) same adds)
 
@@ -215,5 +214,5 @@ module _ (bank : Content) (frame : Frame) (old new : Writer) (c : Clause) (v : I
       subst (λ ps. AddsLine (after word.Replace (number l ∷ number k ∷ path ps ∷ number m ∷ sign s ∷ [])) old new) copied
       (subst (λ n. AddsLine (after word.Replace (number l ∷ number k ∷ path copy ∷ number n ∷ sign s ∷ [])) old new) same adds) in
       rule_written (after word.Replace fields) (replace_rule block fields) (Replace l k places (term_at bank t) (side_of s))
-      (l_fits, (k_fits, (places_spelled (line_clause frame) frame.history l k places (term_at bank t) (side_of s) c fit concluded.clause, (term_fits bank frame old v t written, (tt, tt))))) refl refl
+      (l_fits, (k_fits, (places_spelled (line_clause frame) frame.history l k places (term_at bank t) (side_of s) c fit concluded.clause, (term_fits bank frame old v t written, (tt, tt))))) refl
       (ap (λ (o : Option Term). o >>= λ t. Some (Replace l k places t (side_of s))) (term_number bank frame old v t written)) concluded whole

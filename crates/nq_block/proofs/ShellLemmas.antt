@@ -1,7 +1,7 @@
 -- The lines of a shell, written.
 use Rattle.std.proofs.Math.Seq.{take-suc}
 use Rattle.std.proofs.lemmas.List.{map_push}
-use Rattle.std.proofs.Common.{◌≡◌, ℕ, ◌+◌, ◌<◌, ◌&&◌, ◌||◌, Bool, true, false, Option, Some, None, List, [], ◌∷◌, ◌++◌, length, take, get_or, if◌then◌else◌, refl, sym, ap, ◌∙◌, subst, append_assoc, add-one}
+use Rattle.std.proofs.Common.{◌≡◌, ℕ, ◌+◌, ◌<◌, ◌&&◌, Bool, true, false, Option, Some, None, List, [], ◌∷◌, ◌++◌, length, take, get_or, if◌then◌else◌, refl, sym, ap, ◌∙◌, subst, append_assoc, add-one}
 use Rattle.std.specs.Prelude.{IsTrue, is_none}
 use Rattle.std.specs.List.{flat_map}
 use Rattle.nq_logtext.specs.Fields.{name, mode, of_name}
@@ -14,19 +14,17 @@ use Rattle.nq_logtext.specs.declared.word.Word.TheVariants as word
 use Rattle.nq_logic.specs.Terms.{Name, Symbol, Each}
 use Rattle.nq_logic.specs.Histories.{Shell, AddShell, Part as TreePart}
 use Rattle.nq_logic.specs.ShellPrinciple.{listed}
-use Rattle.nq_proof.proofs.Tests.{and_left, and_right}
 use Rattle.nq_bank.specs.declared.shell.Part.{Part}
 use Rattle.nq_bank.specs.Content.{Content}
 use Rattle.nq_bank.specs.Shells.{part_at, parts_at, restriction_of as bank_restriction}
 use Rattle.nq_log.specs.States.{CaseLine, Block, State, Claim, Claims, Adds, Continues, is_empty, only_when}
 use Rattle.nq_log.specs.Fields.{names_in}
 use Rattle.nq_log.specs.ClosingLines.{restriction_of, has_room, is_shell_ok, base_of}
-use Rattle.nq_log.specs.Stage.{is_built_word}
 use Rattle.nq_log.specs.Logs.{step, continued, claimed}
 use Rattle.nq_block.specs.declared.writer.Writer.{Writer}
 use Rattle.nq_block.specs.Blocks.{IsBlock}
 use Rattle.nq_block.specs.Closings.{IsPartSpelled, IsBaseSpelled, CanAdd}
-use Rattle.nq_block.specs.Writing.{Frame, block_of, state_of, are_built_ahead, are_built_parts, is_built_function, with_part, IsWriting, AddsLine, line_text, base_text}
+use Rattle.nq_block.specs.Writing.{Frame, block_of, state_of, with_part, IsWriting, AddsLine, line_text, base_text}
 use Rattle.nq_block.proofs.Leading.{leads_on, leads_out}
 use Rattle.nq_block.proofs.RuleLemmas.{after}
 use Rattle.nq_block.proofs.ClosingLines.{nothing_waits}
@@ -50,19 +48,6 @@ listed_is : (one_of : Bool) (rs : List Name) → listed (bank_restriction one_of
 listed_is true rs = refl
 listed_is false rs = refl
 
--- the lines of parts are built, and so is that of the last
-part_built : (parts : List TreePart) (part : TreePart) (b : Bool) → is_empty (parts ++ (part ∷ [])) || b ≡ true → (is_empty parts || b ≡ true) × (b ≡ true)
-part_built [] part b e = (refl, e)
-part_built (first ∷ parts) part b e = (e, e)
-
-part_ahead : (f : Bool) (parts : List TreePart) (part : TreePart) (b : Bool) → f && (is_empty (parts ++ (part ∷ [])) || b) ≡ true → (f && (is_empty parts || b) ≡ true) × (b ≡ true)
-part_ahead true parts part b e = part_built parts part b e
-part_ahead false parts part b e = absurd cc
-
-parts_built : (parts : List TreePart) (b : Bool) → b ≡ true → is_empty parts || b ≡ true
-parts_built [] b e = refl
-parts_built (first ∷ parts) b e = e
-
 module _ (bank : Content) (frame : Frame) (old new : Writer) (v : IsWriting bank frame old) where
   abbrev s : State
   s = state_of frame v.waiting v.terms
@@ -82,7 +67,7 @@ module _ (bank : Content) (frame : Frame) (old new : Writer) (v : IsWriting bank
       record {
         terms = v.terms;
         waiting = v.waiting;
-        leads = leads_on old.text s line (block_of (with_part frame part) v.waiting v.terms) v.leads (spelled.accessor, (tt, (spelled.default, names_spelled rs rs_spelled))) (part_ahead (is_built_function frame.introduced) frame.parts part (is_built_word word.Part)) taken;
+        leads = leads_on old.text s line (block_of (with_part frame part) v.waiting v.terms) v.leads (spelled.accessor, (tt, (spelled.default, names_spelled rs rs_spelled))) taken;
         cases = v.cases;
         count = v.count;
         fits = v.fits;
@@ -109,14 +94,8 @@ module _ (bank : Content) (frame : Frame) (old new : Writer) (v : IsWriting bank
       ∙ ap (λ (w : List CaseLine). claimed (only_when (is_empty w && has_room frame.history && is_shell_ok frame.history shell) c)) none
       ∙ ap (λ b. claimed (only_when (b && is_shell_ok frame.history shell) c)) can.room
       ∙ ap (λ b. claimed (only_when b c)) can.accepted in
-      subst (IsBlock frame.history c) (sym (ap (λ (w : Writer). w.text) adds)) (leads_out old.text s line c v.leads (can.constructor_spelled, (base_spelled shell.base can.base_spelled, (can.recognizer_spelled, tt))) all_built taken)
+      subst (IsBlock frame.history c) (sym (ap (λ (w : Writer). w.text) adds)) (leads_out old.text s line c v.leads (can.constructor_spelled, (base_spelled shell.base can.base_spelled, (can.recognizer_spelled, tt))) taken)
     where
-      all_built : is_built_word word.Shell && is_built_word word.Part ≡ true → (are_built_ahead s.block ≡ true) × (is_built_word word.Shell ≡ true)
-      all_built e = (
-        ap (λ (o : Option Symbol). is_built_function o && are_built_parts frame.parts) alone ∙ parts_built frame.parts (is_built_word word.Part) (and_right (is_built_word word.Shell) (is_built_word word.Part) e),
-        and_left (is_built_word word.Shell) (is_built_word word.Part) e,
-      )
-
       base_is : (b : Option Name) → IsBaseSpelled b → base_of (base_text b) ≡ b
       base_is None spelled = refl
       base_is (Some b) spelled = ap (λ t. if t then None else Some b) spelled.1

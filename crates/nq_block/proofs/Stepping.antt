@@ -1,5 +1,5 @@
 -- Lines of terms and of rules, written on a frame.
-use Rattle.std.proofs.Common.{◌≡◌, ℕ, ◌+◌, ◌&&◌, Bool, true, false, Option, Some, None, List, [], ◌∷◌, ◌++◌, length, refl, sym, ap, ◌∙◌, subst, length-append}
+use Rattle.std.proofs.Common.{◌≡◌, ℕ, ◌+◌, ◌&&◌, Bool, true, false, Option, Some, List, [], ◌∷◌, ◌++◌, length, refl, sym, ap, ◌∙◌, subst, length-append}
 use Rattle.std.specs.Prelude.{nat_eq, not, All}
 use Rattle.std.specs.List.{flat_map}
 use Rattle.std.specs.HashMap.{Updates}
@@ -19,14 +19,13 @@ use Rattle.nq_bank.specs.Soundness.{IsSound}
 use Rattle.nq_bank.proofs.NodesLemmas.{All-head, All-tail}
 use Rattle.nq_proof.specs.Clauses.{Clause}
 use Rattle.nq_proof.specs.Logs.{has_symbol}
-use Rattle.nq_proof.specs.Rules.{Rule, conclusion, rule_terms}
+use Rattle.nq_proof.specs.Rules.{Rule, conclusion}
 use Rattle.nq_log.specs.Sizes.{is_shallow, are_shallow}
 use Rattle.nq_log.specs.States.{CaseLine, State, Step, Block, Continues, numbered, only_when, clause_at, terms_at as block_terms_at}
-use Rattle.nq_log.specs.RuleLines.{are_without, with_clause, rule_line}
-use Rattle.nq_log.specs.Built.{IsBuilt}
+use Rattle.nq_log.specs.RuleLines.{with_clause, rule_line}
 use Rattle.nq_log.specs.Logs.{step, continued}
 use Rattle.nq_block.specs.declared.writer.Writer.{Writer}
-use Rattle.nq_block.specs.Writing.{Frame, Concludes, frame_symbols, block_of, state_of, line_clause, with_line, LeadsTo, AreNumbers, term_of, variable_of, IsWriting, AddsTerm, AddsLine, line_text}
+use Rattle.nq_block.specs.Writing.{Frame, Concludes, frame_symbols, block_of, state_of, with_line, LeadsTo, AreNumbers, term_of, variable_of, IsWriting, AddsTerm, AddsLine, line_text}
 use Rattle.nq_block.proofs.Leading.{leads_on}
 use Rattle.nq_block.proofs.Numbering.{numbered_last, numbers_kept, number_added}
 use Rattle.nq_block.proofs.Spelling.{run_read}
@@ -66,9 +65,9 @@ one_longer xs x = length-append xs (x ∷ [])
 
 module _ (bank : Content) (frame : Frame) (old new : Writer) (line : Line) (w : IsWriting bank frame old) where
   -- what a line leads to that gives a term
-  leads_to_term : (t : Term) → IsSpellable line → IsBuilt line → step (state_of frame w.waiting w.terms) line ≡ adds_term frame w.waiting w.terms t → AddsTerm line old new → LeadsTo new.text (state_of frame w.waiting (w.terms ++ (t ∷ [])))
-  leads_to_term t spellable built taken adds =
-      subst (λ text. LeadsTo text (state_of frame w.waiting (w.terms ++ (t ∷ [])))) (sym adds.text) (leads_on old.text (state_of frame w.waiting w.terms) line (block_of frame w.waiting (w.terms ++ (t ∷ []))) w.leads spellable (λ e. (e, built)) taken)
+  leads_to_term : (t : Term) → IsSpellable line → step (state_of frame w.waiting w.terms) line ≡ adds_term frame w.waiting w.terms t → AddsTerm line old new → LeadsTo new.text (state_of frame w.waiting (w.terms ++ (t ∷ [])))
+  leads_to_term t spellable taken adds =
+      subst (λ text. LeadsTo text (state_of frame w.waiting (w.terms ++ (t ∷ [])))) (sym adds.text) (leads_on old.text (state_of frame w.waiting w.terms) line (block_of frame w.waiting (w.terms ++ (t ∷ []))) w.leads spellable taken)
 
   counts : (t : Term) → AddsTerm line old new → new.count ≡ length (w.terms ++ (t ∷ []))
   counts t adds = adds.count ∙ ap (λ n. n + 1) w.count ∙ sym (one_longer w.terms t)
@@ -76,16 +75,16 @@ module _ (bank : Content) (frame : Frame) (old new : Writer) (line : Line) (w : 
   last : (t : Term) → numbered (w.terms ++ (t ∷ [])) (old.count + 1) ≡ Some t
   last t = subst (λ n. numbered (w.terms ++ (t ∷ [])) (n + 1) ≡ Some t) (sym w.count) (numbered_last w.terms t)
 
-  pub term_written : (k : ℕ) → IsSpellable line → IsBuilt line → step (state_of frame w.waiting w.terms) line ≡ adds_term frame w.waiting w.terms (term_of bank k) → AddsTerm line old new →
+  pub term_written : (k : ℕ) → IsSpellable line → step (state_of frame w.waiting w.terms) line ≡ adds_term frame w.waiting w.terms (term_of bank k) → AddsTerm line old new →
       Updates nat_eq old.terms new.terms k (Some (old.count + 1)) → new.variables ≡ old.variables → IsWriting bank frame new
-  term_written k spellable built taken adds updates same =
+  term_written k spellable taken adds updates same =
       let t : Term = term_of bank k in
       let terms : List Term = w.terms ++ (t ∷ []) in
       record {
         terms = terms;
         waiting = w.waiting;
         cases = grouped_kept (block_of frame w.waiting w.terms) (t ∷ []) w.waiting ([], frame.cases) w.cases;
-        leads = leads_to_term t spellable built taken adds;
+        leads = leads_to_term t spellable taken adds;
         count = counts t adds;
         fits = adds.fits;
         of_terms = number_added (term_of bank) terms old.terms new.terms k (old.count + 1) (numbers_kept (term_of bank) w.terms (t ∷ []) old.terms w.of_terms) updates (last t);
@@ -95,16 +94,16 @@ module _ (bank : Content) (frame : Frame) (old new : Writer) (line : Line) (w : 
         sound = w.sound;
       }
 
-  pub variable_written : (k : ℕ) → IsSpellable line → IsBuilt line → step (state_of frame w.waiting w.terms) line ≡ adds_term frame w.waiting w.terms (variable_of bank k) → AddsTerm line old new →
+  pub variable_written : (k : ℕ) → IsSpellable line → step (state_of frame w.waiting w.terms) line ≡ adds_term frame w.waiting w.terms (variable_of bank k) → AddsTerm line old new →
       Updates nat_eq old.variables new.variables k (Some (old.count + 1)) → new.terms ≡ old.terms → IsWriting bank frame new
-  variable_written k spellable built taken adds updates same =
+  variable_written k spellable taken adds updates same =
       let t : Term = variable_of bank k in
       let terms : List Term = w.terms ++ (t ∷ []) in
       record {
         terms = terms;
         waiting = w.waiting;
         cases = grouped_kept (block_of frame w.waiting w.terms) (t ∷ []) w.waiting ([], frame.cases) w.cases;
-        leads = leads_to_term t spellable built taken adds;
+        leads = leads_to_term t spellable taken adds;
         count = counts t adds;
         fits = adds.fits;
         of_terms = subst (AreNumbers (term_of bank) terms) (sym same) (numbers_kept (term_of bank) w.terms (t ∷ []) old.terms w.of_terms);
@@ -115,14 +114,14 @@ module _ (bank : Content) (frame : Frame) (old new : Writer) (line : Line) (w : 
       }
 
   -- a line that gives a clause
-  pub line_written : (c : Clause) → IsSpellable line → IsBuilt line → step (state_of frame w.waiting w.terms) line ≡ Some (Continues (block_of (with_line frame c) w.waiting w.terms)) → AddsLine line old new → IsWriting bank (with_line frame c) new
-  line_written c spellable built taken adds =
+  pub line_written : (c : Clause) → IsSpellable line → step (state_of frame w.waiting w.terms) line ≡ Some (Continues (block_of (with_line frame c) w.waiting w.terms)) → AddsLine line old new → IsWriting bank (with_line frame c) new
+  line_written c spellable taken adds =
       let grown : IsWriting bank (with_line frame c) (record old { text = old.text ++ line_text line }) =
       record {
         terms = w.terms;
         waiting = w.waiting;
         cases = w.cases;
-        leads = leads_on old.text (state_of frame w.waiting w.terms) line (block_of (with_line frame c) w.waiting w.terms) w.leads spellable (λ e. (e, built)) taken;
+        leads = leads_on old.text (state_of frame w.waiting w.terms) line (block_of (with_line frame c) w.waiting w.terms) w.leads spellable taken;
         count = w.count;
         fits = w.fits;
         of_terms = w.of_terms;

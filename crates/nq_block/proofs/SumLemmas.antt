@@ -24,7 +24,7 @@ use Rattle.nq_log.specs.Fields.{multiples_in}
 use Rattle.nq_log.specs.Fields as fields
 use Rattle.nq_log.specs.RuleLines.{side_of, linear_rule, summands_at as block_summands_at}
 use Rattle.nq_block.specs.declared.writer.Writer.{Writer}
-use Rattle.nq_block.specs.Writing.{Frame, Concludes, block_of, state_of, line_clause, with_line, IsWriting, IsWritten, IsSummandWritten, Keeps, AddsLine, multiple_in, number_in, sign_if}
+use Rattle.nq_block.specs.Writing.{Frame, Concludes, block_of, with_line, IsWriting, IsSummandWritten, Keeps, AddsLine, multiple_in, sign_if}
 use Rattle.nq_block.proofs.RuleLemmas.{after, term_number, term_fits, rule_written}
 
 -- ---- literals that have their lines
@@ -98,5 +98,5 @@ module _ (bank : Content) (frame : Frame) (old new : Writer) (c : Clause) (v : I
       let read : linear_rule block all ≡ Some (Linear (summands_at bank summands)) =
       ap (λ (o : Option (List fields.Multiple)). o >>= λ ms. block_summands_at block ms >>= λ summands. Some (Linear summands)) (multiples_read ns)
       ∙ ap (λ (o : Option (List tree.Summand)). o >>= λ summands. Some (Linear summands)) (summands_found bank frame old v summands written) in
-      rule_written bank frame old new c v low (after word.Linear all) (linear_rule block all) (Linear (summands_at bank summands)) (multiples_spelled bank frame old v summands written fit) refl refl read concluded
+      rule_written bank frame old new c v low (after word.Linear all) (linear_rule block all) (Linear (summands_at bank summands)) (multiples_spelled bank frame old v summands written fit) refl read concluded
       (subst (λ ms. AddsLine (after word.Linear (flat_map of_multiple ms)) old new) same adds)

@@ -1,5 +1,5 @@
 -- A term, written as its line.
-use Rattle.std.proofs.Common.{◌≡◌, ℕ, ◌+◌, ◌<◌, ◌^◌, List, [], ◌∷◌, length, Some, refl, sym, ap, ◌∙◌, subst}
+use Rattle.std.proofs.Common.{◌≡◌, ℕ, ◌+◌, ◌<◌, ◌^◌, List, [], ◌∷◌, length, Some, sym, ap, ◌∙◌, subst}
 use Rattle.std.specs.Prelude.{nat_eq, IsTrue, Result, Ok, Err, OnOk}
 use Rattle.std.specs.List.{flat_map}
 use Rattle.std.specs.HashMap.{Updates}
@@ -35,13 +35,13 @@ module _ (bank : Content) (frame : Frame) (old new : Writer) (v : IsWriting bank
   pub new_variable : (s : Sym) (x : List ℕ) → x ≡ text_at bank s → IsVariable (text_at bank s) → AddsTerm (after word.Variable (name x ∷ [])) old new → new.terms ≡ old.terms →
       Updates nat_eq old.variables new.variables s.0 (Some (old.count + 1)) → IsWriting bank frame new
   new_variable s x reads is adds same updates =
-      variable_written bank frame old new (after word.Variable (name (text_at bank s) ∷ [])) v s.0 (is.symbol, tt) refl (variable_step frame v.waiting v.terms (text_at bank s) is.other)
+      variable_written bank frame old new (after word.Variable (name (text_at bank s) ∷ [])) v s.0 (is.symbol, tt) (variable_step frame v.waiting v.terms (text_at bank s) is.other)
       (subst (λ x. AddsTerm (after word.Variable (name x ∷ [])) old new) reads adds) updates same
 
   pub new_numeral : (t : TermId) (n : ℕ) → term_at bank t ≡ numeral_term n → n < 2 ^ 128 → AddsTerm (after word.Numeral (numeral n ∷ [])) old new →
       Updates nat_eq old.terms new.terms t.0 (Some (old.count + 1)) → new.variables ≡ old.variables → IsWriting bank frame new
   new_numeral t n is fits adds updates same =
-      term_written bank frame old new (after word.Numeral (numeral n ∷ [])) v t.0 (fits, tt) refl (numeral_step frame v.waiting v.terms n ∙ ap (adds_term frame v.waiting v.terms) (sym is)) adds updates same
+      term_written bank frame old new (after word.Numeral (numeral n ∷ [])) v t.0 (fits, tt) (numeral_step frame v.waiting v.terms n ∙ ap (adds_term frame v.waiting v.terms) (sym is)) adds updates same
 
   pub new_call : (t : TermId) (f : Sym) (ids : List TermId) (x ns : List ℕ) → x ≡ text_at bank f → ns ≡ numbers_in old.terms ids → Stands bank t → term_at bank t ≡ call (text_at bank f) (terms_at bank ids) →
       AreWritten old.terms ids → IsTermOf IsVariable (frame_symbols frame) (term_at bank t) → AddsTerm (after word.Call (name x ∷ flat_map one_number ns)) old new →
@@ -57,7 +57,7 @@ module _ (bank : Content) (frame : Frame) (old new : Writer) (v : IsWriting bank
       let whole : AddsTerm (after word.Call (name g ∷ flat_map one_number ms)) old new =
       subst (λ x. AddsTerm (after word.Call (name x ∷ flat_map one_number ms)) old new) reads
       (subst (λ ns. AddsTerm (after word.Call (name x ∷ flat_map one_number ns)) old new) same_numbers adds) in
-      term_written bank frame old new (after word.Call (name g ∷ flat_map one_number ms)) v t.0 (spelled, run_fits bank frame old v ids written) refl
+      term_written bank frame old new (after word.Call (name g ∷ flat_map one_number ms)) v t.0 (spelled, run_fits bank frame old v ids written)
       (call_step frame v.waiting v.terms g ms ts (run_terms bank frame old v ids written) symbol low ∙ ap (adds_term frame v.waiting v.terms) (sym is)) whole updates same
 
   -- the number of a variable is that of its term

@@ -1,11 +1,10 @@
 -- The text of a block.
-use Rattle.std.specs.Prelude.{◌≡◌, ℕ, true, List, ◌++◌, Some}
+use Rattle.std.specs.Prelude.{◌≡◌, ℕ, List, ◌++◌, Some}
 use Rattle.nq_logtext.specs.Lines.{Line, IsSpellable}
 use Rattle.nq_logic.specs.Terms.{Each}
 use Rattle.nq_logic.specs.Histories.{History}
 use Rattle.nq_log.specs.States.{Claim, start_of}
 use Rattle.nq_log.specs.Blocks.{block_claim, lines_text}
-use Rattle.nq_log.specs.Built.{IsBuilt, is_built_claim}
 
 -- the text is a block of lines that ends in this claim, in a log with this history so far
 pub record IsBlock (h : History) (c : Claim) (text : List ℕ) : Type 0 where
@@ -13,8 +12,6 @@ pub record IsBlock (h : History) (c : Claim) (text : List ℕ) : Type 0 where
   pub spellable : Each IsSpellable lines
   pub claims : block_claim (start_of h) lines ≡ Some c
   pub reads : text ≡ lines_text lines
-  -- the checker allows each of them, where it allows the closing line
-  pub built : is_built_claim c ≡ true → Each IsBuilt lines
 
 -- such a text was added at the end
 pub record AddsBlock (h : History) (c : Claim) (old new : List ℕ) : Type 0 where

@@ -5,10 +5,8 @@ use Rattle.nq_logic.specs.Terms.{Each}
 use Rattle.nq_logic.specs.Histories.{History}
 use Rattle.nq_logic.specs.Classes.{without_classes}
 use Rattle.nq_log.specs.States.{Claim, after_claim}
-use Rattle.nq_log.specs.Logs.{Right, reading_by, reading_of}
+use Rattle.nq_log.specs.Logs.{Right, reading_of}
 use Rattle.nq_log.specs.Blocks.{blocks_claim, header_line, end_line, lines_text}
-use Rattle.nq_log.specs.Stage.{built_step}
-use Rattle.nq_log.specs.Built.{IsBuilt, AreBuilt}
 use Rattle.nq_log.specs.Growing.{history_after}
 use Rattle.nq_block.specs.Blocks.{IsBlock}
 
@@ -32,8 +30,6 @@ pub record IsOpenLog (text : List ℕ) (claims : List Claim) (history : History)
   pub reads : text ≡ lines_text (header_line ∷ joined blocks)
   pub claimed : blocks_claim [] blocks ≡ Some claims
   pub makes : history_after [] claims ≡ history
-  -- the checker allows each of its lines, where it allows the closing lines
-  pub built : AreBuilt claims → Each (Each IsBuilt) blocks
 
 -- a log begins with its first line
 abbrev pub LogBegins : Type 0
@@ -47,7 +43,3 @@ BlockFollows = (text more : List ℕ) (claims : List Claim) (h g : History) (c :
 -- with its last line it is a right log, with the claims of its blocks in their order
 abbrev pub LogEnds : Type 0
 LogEnds = (text : List ℕ) (claims : List Claim) (h : History) → IsOpenLog text claims h → reading_of (text ++ end_text) ≡ record { claims = claims; ending = Right }
-
--- and the checker accepts it, where it allows the closing lines
-abbrev pub BuiltLogEnds : Type 0
-BuiltLogEnds = (text : List ℕ) (claims : List Claim) (h : History) → IsOpenLog text claims h → AreBuilt claims → reading_by built_step (text ++ end_text) ≡ record { claims = claims; ending = Right }

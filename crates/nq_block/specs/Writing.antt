@@ -1,5 +1,5 @@
 -- A block in writing: which lines it has so far, and which terms have numbers.
-use Rattle.std.specs.Prelude.{◌≡◌, ℕ, codes, ◌^◌, ◌<◌, ◌≤◌, ◌+◌, nat_eq, Bool, true, false, ◌||◌, ◌&&◌, is_some, is_none, IsSome, ⊤, unwrap_or, Option, Some, None, Result, OnOk, List, [], ◌∷◌, ◌++◌, map, length, take}
+use Rattle.std.specs.Prelude.{◌≡◌, ℕ, codes, ◌^◌, ◌<◌, ◌≤◌, ◌+◌, nat_eq, Bool, true, false, is_some, IsSome, ⊤, unwrap_or, Option, Some, None, Result, OnOk, List, [], ◌∷◌, ◌++◌, map, length, take}
 use Rattle.std.specs.declared.hash.FoldHasher.{FoldHasher}
 use Rattle.std.specs.declared.hash.BuildHasherDefault.{BuildHasherDefault}
 use Rattle.std.specs.declared.alloc.AllocError.{AllocError}
@@ -30,12 +30,10 @@ use Rattle.nq_history.specs.declared.entry.Entry.{Entry}
 use Rattle.nq_history.specs.Events.{events_at}
 use Rattle.nq_kernel.specs.declared.rule.Line.{Line}
 use Rattle.nq_kernel.specs.Over.{IsTermOf, RuleIsOver, pair_names, IsVariable}
-use Rattle.nq_log.specs.States.{CaseLine, MeasureLine, Block, State, start_of, numbered, clause_at, is_empty, introduced_symbols}
+use Rattle.nq_log.specs.States.{CaseLine, Block, State, start_of, numbered, clause_at, introduced_symbols}
 use Rattle.nq_log.specs.Sizes.{are_shallow}
 use Rattle.nq_log.specs.RuleLines.{grouped, are_without}
 use Rattle.nq_log.specs.Blocks.{lines_text}
-use Rattle.nq_log.specs.Stage.{is_built_word}
-use Rattle.nq_log.specs.Built.{IsBuilt}
 use Rattle.nq_log.specs.Growing.{state_after_lines}
 use Rattle.nq_block.specs.declared.writer.Writer.{Writer}
 use Rattle.nq_block.specs.declared.closing.Closing.{Closing}
@@ -122,28 +120,12 @@ pub record CanDistinguish (h : History) (clauses : List (Option (List Term))) (c
   pub test : IsTermOf IsVariable (symbols_of h) c.test
   pub hypotheses : Each (CanSuppose h clauses) c.hypotheses
 
--- whether the checker allows the lines of these parts
-abbrev pub are_built_parts : List Part → Bool
-are_built_parts parts = is_empty parts || is_built_word word.Part
-
--- whether it allows the line of the function that a block introduces
-abbrev pub is_built_function : Option Symbol → Bool
-is_built_function introduced = is_none introduced || is_built_word word.Function
-
--- whether it allows that of a measure
-abbrev pub is_built_measure : Option MeasureLine → Bool
-is_built_measure measure = is_none measure || is_built_word word.Measure
-
-abbrev pub are_built_ahead : Block → Bool
-are_built_ahead block = is_built_measure block.measure && is_built_function block.introduced && are_built_parts block.parts
-
 -- the text is that of lines that lead from the start of a block to this state
 pub record LeadsTo (text : List ℕ) (s : State) : Type 0 where
   pub lines : List grammar.Line
   pub spellable : Each IsSpellable lines
   pub state : state_after_lines (start_of s.history) lines ≡ Some s
   pub reads : text ≡ lines_text lines
-  pub built : are_built_ahead s.block ≡ true → Each IsBuilt lines
 
 -- each number is that of what stands at its place
 pub record AreNumbers (meaning : ℕ → Term) (terms : List Term) (known : Numbers) : Type 0 where

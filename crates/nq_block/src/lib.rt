@@ -7,7 +7,7 @@
 #![tactic(auto)]
 
 ghost use Rattle.nq_block.specs.Names.{SymbolsBegin, SymbolsGrow, SymbolsStay};
-ghost use Rattle.nq_block.specs.OpenLogs.{LogBegins, BlockFollows, LogEnds, BuiltLogEnds};
+ghost use Rattle.nq_block.specs.OpenLogs.{LogBegins, BlockFollows, LogEnds};
 
 // the closing line
 mod closing;
@@ -35,13 +35,11 @@ mod block;
 pub use block::{write_block, write_end, write_header};
 pub use closing::{Closing, Measured};
 
-/// A log that is written from its front goes on block by block, and is right with its last line. The checker accepts it
-/// where it allows the closing lines of its blocks.
+/// A log that is written from its front goes on block by block, and is right with its last line.
 pub fn open_log()
     ensures begins { LogBegins }
     ensures follows { BlockFollows }
     ensures ends { LogEnds }
-    ensures built { BuiltLogEnds }
 {}
 
 /// The names of a history are such as a log can spell: at first, after one more such event, and after an undo.

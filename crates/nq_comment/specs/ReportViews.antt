@@ -8,6 +8,7 @@ use Rattle.nq_comment.specs.declared.answer.Quick.{Quick}
 use Rattle.nq_comment.specs.declared.answer.Quick.TheVariants as quick
 use Rattle.nq_comment.specs.declared.answer.FormAnswer.{FormAnswer}
 use Rattle.nq_comment.specs.declared.answer.FormAnswer.TheVariants as form
+use Rattle.nq_comment.specs.declared.step.ShownStep.{ShownStep}
 use Rattle.nq_comment.specs.declared.report.FormReport.{FormReport}
 use Rattle.nq_comment.specs.declared.report.SyntaxFault.{SyntaxFault}
 use Rattle.nq_form.specs.Grammar.{Ending, done, fault}
@@ -21,11 +22,21 @@ quick_of quick.Inst = model.Inst
 abbrev pub words_of : List (Vec ℕ Global) → List (List ℕ)
 words_of = map (λ word. word.items)
 
+abbrev pub step_of : ShownStep → model.ShownStep
+step_of s = record { parent = s.parent; led_by = s.led_by; goal = s.goal.items }
+
+abbrev pub steps_of : List ShownStep → List model.ShownStep
+steps_of = map step_of
+
 abbrev pub answer_of : FormAnswer → model.Answer
 answer_of form.Accepted = model.Accepted
+answer_of (form.AcceptedBy place measure) = model.AcceptedBy place measure.items
 answer_of (form.Undone count) = model.Undone count
 answer_of form.Skipped = model.Skipped
 answer_of (form.Proved quick) = model.Proved (quick_of quick)
+answer_of (form.ProvedFrom goal steps) = model.ProvedFrom goal.items (steps_of steps.items)
+answer_of (form.Failed goal steps cause) = model.Failed goal.items (steps_of steps.items) cause
+answer_of form.OutOfSteps = model.OutOfSteps
 answer_of (form.Refused refusal) = model.Refused refusal.code (words_of refusal.words.items)
 
 abbrev pub text_of : Option (Bor (List ℕ)) → Option (List ℕ)

@@ -2,7 +2,11 @@
 use Rattle.std.specs.Prelude.{◌+◌, ◌==◌, if◌then◌else◌, ℕ, List, [], ◌∷◌, ◌++◌, Option, Some, None, codes}
 use Rattle.std.specs.List.{flat_map}
 use Rattle.std.specs.Fmt.{decimal}
-use Rattle.nq_comment.specs.Reports.{Answer, Accepted, Undone, Skipped, Proved, Refused, Quick, Taut, Eval, Inst, Report}
+use Rattle.nq_comment.specs.declared.step.Move.{Move}
+use Rattle.nq_comment.specs.declared.step.Move.TheVariants.{Simp, Subst, Elim, Fert, Gen, Irr, Ind}
+use Rattle.nq_comment.specs.declared.step.Cause.{Cause}
+use Rattle.nq_comment.specs.declared.step.Cause.TheVariants.{False, NoInduction, Loop, Forbidden, Depth}
+use Rattle.nq_comment.specs.Reports.{Answer, Accepted, AcceptedBy, Undone, Skipped, Proved, ProvedFrom, Failed, OutOfSteps, Refused, Quick, Taut, Eval, Inst, ShownStep, Report}
 use Rattle.nq_comment.specs.Totals.{Totals, totals_of}
 use Rattle.nq_form.specs.Grammar.{Ending, done, fault, too_long}
 
@@ -27,11 +31,61 @@ quick_word Inst = codes "INST"
 abbrev pub spaced : List (List ℕ) → List ℕ
 spaced words = flat_map (λ word. 32 ∷ word) words
 
+abbrev pub move_word : Move → List ℕ
+move_word Simp = codes "SIMP"
+move_word Subst = codes "SUBST"
+move_word Elim = codes "ELIM"
+move_word Fert = codes "FERT"
+move_word Gen = codes "GEN"
+move_word Irr = codes "IRR"
+move_word Ind = codes "IND"
+
+abbrev pub cause_words : Cause → List ℕ
+cause_words False = codes "false"
+cause_words NoInduction = codes "no induction"
+cause_words Loop = codes "loop"
+cause_words Forbidden = codes "induction forbidden"
+cause_words Depth = codes "too many inductions"
+
+-- the line of the first goal
+abbrev pub first_line : List ℕ → List ℕ
+first_line goal = joined (codes "   0. GOAL: " ∷ goal ∷ codes "\n" ∷ [])
+
+-- the line of a step, by the texts of its number, its move and its parent
+abbrev pub step_line_by : List ℕ → List ℕ → List ℕ → List ℕ → List ℕ
+step_line_by number led_by parent goal =
+    joined (codes "   " ∷ number ∷ codes ". " ∷ led_by ∷ codes " from " ∷ parent ∷ codes ": " ∷ goal ∷ codes "\n" ∷ [])
+
+-- the line of the step of this number
+abbrev pub step_line : ℕ → ShownStep → List ℕ
+step_line number s = step_line_by (decimal number) (move_word s.led_by) (decimal s.parent) s.goal
+
+-- the lines of steps, the first of this number
+abbrev pub step_lines_from : ℕ → List ShownStep → List ℕ
+step_lines_from number [] = []
+step_lines_from number (s ∷ steps) = step_line number s ++ step_lines_from (number + 1) steps
+
+-- the lines of a first goal and of the steps from it
+abbrev pub goal_lines : List ℕ → List ShownStep → List ℕ
+goal_lines goal steps = first_line goal ++ step_lines_from 1 steps
+
+-- the line of a definition that was accepted by this measure
+abbrev pub measured_line : List ℕ → List ℕ
+measured_line measure = joined (codes "   Accepted by " ∷ measure ∷ codes ".\n" ∷ [])
+
+-- the line of a goal that was left over for this cause
+abbrev pub failed_line : Cause → List ℕ
+failed_line cause = joined (codes "   Failed, " ∷ cause_words cause ∷ codes ".\n" ∷ [])
+
 abbrev pub answer_lines : Answer → List ℕ
 answer_lines Accepted = codes "   Accepted.\n"
+answer_lines (AcceptedBy place measure) = measured_line measure
 answer_lines (Undone count) = joined (codes "   Undone " ∷ decimal count ∷ codes ".\n" ∷ [])
 answer_lines Skipped = codes "   Skipped.\n"
 answer_lines (Proved quick) = joined (codes "   By " ∷ quick_word quick ∷ codes ".\n   Proved.\n" ∷ [])
+answer_lines (ProvedFrom goal steps) = goal_lines goal steps ++ codes "   Proved.\n"
+answer_lines (Failed goal steps cause) = goal_lines goal steps ++ failed_line cause
+answer_lines OutOfSteps = codes "   Out of steps.\n"
 answer_lines (Refused code words) = joined (codes "   Refused " ∷ decimal code ∷ spaced words ∷ codes ".\n" ∷ [])
 
 -- the header and the lines of one report

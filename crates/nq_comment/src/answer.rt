@@ -3,6 +3,7 @@ ghost use Rattle.nq_comment.specs.ReportViews.{answer_of};
 ghost use Rattle.nq_comment.specs.Reports.{kind_of};
 
 use crate::kind::Kind;
+use crate::step::{Cause, ShownStep};
 
 /// The fragment in which a lemma was proved without a search.
 #[derive(Clone, Copy, Debug, PartialEq, Eq)]
@@ -29,12 +30,20 @@ pub struct Refusal {
 pub enum FormAnswer {
     /// The event was taken, and needed no proof.
     Accepted,
+    /// The recursive definition has the measure of this place among those that are tried, counted from 0, with this text.
+    AcceptedBy(u64, Vec<u8>),
     /// So many events are gone.
     Undone(u64),
     /// The form was passed over.
     Skipped,
     /// The lemma was proved without a search.
     Proved(Quick),
+    /// The lemma was proved by moves from the goal of this text; the steps are goals that the proof used.
+    ProvedFrom(Vec<u8>, Vec<ShownStep>),
+    /// The steps lead from the goal of this text to one that is left over for the cause.
+    Failed(Vec<u8>, Vec<ShownStep>, Cause),
+    /// The step limit was reached.
+    OutOfSteps,
     /// The form was refused, for this.
     Refused(Refusal),
 }
@@ -46,8 +55,12 @@ impl FormAnswer {
     {
         match self {
             FormAnswer::Accepted => Kind::Accepted,
+            FormAnswer::AcceptedBy(_, _) => Kind::Accepted,
             FormAnswer::Undone(_) => Kind::Accepted,
             FormAnswer::Proved(_) => Kind::Accepted,
+            FormAnswer::ProvedFrom(_, _) => Kind::Accepted,
+            FormAnswer::Failed(_, _, _) => Kind::Failed,
+            FormAnswer::OutOfSteps => Kind::Failed,
             FormAnswer::Refused(_) => Kind::Refused,
             FormAnswer::Skipped => Kind::Skipped,
         }

@@ -7,11 +7,14 @@
 mod answer;
 mod counting;
 mod counts;
+mod goal_lines;
 mod kind;
 mod report;
+mod step;
 mod text;
 
 pub use answer::{FormAnswer, Quick, Refusal};
 pub use counts::Counts;
 pub use kind::Kind;
 pub use report::{FormReport, SyntaxFault, render_closing, render_report, shown_word};
+pub use step::{Cause, Move, ShownStep};

@@ -2,9 +2,10 @@
 ghost use Rattle.std.specs.Prelude.{◌≡◌, IfOk, Some};
 ghost use Rattle.nq_comment.specs.Reports as model;
 ghost use Rattle.nq_comment.specs.ReportViews.{answer_of, ending_of, quick_of, report_of, text_of, words_of};
-ghost use Rattle.nq_comment.specs.Text.{answer_lines, closing_lines, fault_line, fault_words, lines_of_report, quick_word, shown_name, shown_word, spaced, summary, summary_by};
+ghost use Rattle.nq_comment.specs.Text.{answer_lines, closing_lines, fault_line, fault_words, lines_of_report, measured_line, quick_word, shown_name, shown_word, spaced, summary, summary_by};
 ghost use Rattle.nq_comment.specs.Totals.{totals_in};
 
+use crate::goal_lines::{failed_lines, proved_lines};
 use crate::text::joined;
 use crate::{Counts, FormAnswer, Quick, Refusal};
 use std::alloc::{AllocError, Global};
@@ -78,11 +79,26 @@ fn answer_lines(alloc: Global, answer: &FormAnswer) -> Result<Vec<u8>, AllocErro
 {
     match answer {
         FormAnswer::Accepted => b"   Accepted.\n".as_slice().to_vec(alloc),
+        FormAnswer::AcceptedBy(_, measure) => measured_line(alloc, measure.as_slice()),
         FormAnswer::Undone(count) => undone_line(alloc, *count),
         FormAnswer::Skipped => b"   Skipped.\n".as_slice().to_vec(alloc),
         FormAnswer::Proved(quick) => quick_lines(alloc, *quick),
+        FormAnswer::ProvedFrom(goal, steps) => {
+            proved_lines(alloc, goal.as_slice(), steps.as_slice())
+        }
+        FormAnswer::Failed(goal, steps, cause) => {
+            failed_lines(alloc, goal.as_slice(), steps.as_slice(), *cause)
+        }
+        FormAnswer::OutOfSteps => b"   Out of steps.\n".as_slice().to_vec(alloc),
         FormAnswer::Refused(refusal) => refused_line(alloc, refusal),
     }
+}
+
+fn measured_line(alloc: Global, measure: &[u8]) -> Result<Vec<u8>, AllocError>
+    ensures { IfOk result (λ text. text.items ≡ measured_line measure.now) }
+{
+    let pieces = [b"   Accepted by ".as_slice(), measure, b".\n".as_slice()];
+    joined(alloc, pieces.as_slice())
 }
 
 fn undone_line(alloc: Global, count: u64) -> Result<Vec<u8>, AllocError>

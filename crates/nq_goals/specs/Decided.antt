@@ -7,20 +7,14 @@ use Rattle.nq_proof.specs.Clauses.{distinct}
 use Rattle.nq_fragments.specs.Tautologies.{IsSmallTautology, node_limit, other_limit}
 use Rattle.nq_fragments.specs.Propositions.{proposition_of, nodes_in, others_in, truth_of}
 use Rattle.nq_fragments.specs.Fragments.{IsInNoFragment}
-use Rattle.nq_fragments.specs.Evaluation.{HasTrueValue}
 use Rattle.nq_events.specs.Events.{Hints}
 use Rattle.nq_goals.specs.declared.kinds.Cause.{Cause}
 use Rattle.nq_goals.specs.Hints.{first_goal}
 use Rattle.nq_goals.specs.Spent.{IsSpent}
 
--- none of the three fragments holds the lemma
-pub record IsOutsideFragments (h : History) (lemma : Term) : Type 0 where
-  pub no_fragment : IsInNoFragment h lemma
-  pub no_true_value : HasTrueValue h lemma → ⊥
-
 -- A lemma in no fragment is hinted where the right nest of OR of the literals of its first goal is a small tautology.
 pub record IsHinted (h : History) (hints : Hints) (lemma : Term) : Type 0 where
-  pub outside : IsOutsideFragments h lemma
+  pub outside : IsInNoFragment h lemma
   pub tautology : IsSmallTautology (either_of (first_goal h hints lemma))
 
 -- no hint other than TIME
@@ -56,5 +50,5 @@ pub data IsDecidedBy (h : History) (hints : Hints) (lemma : Term) : Type 0 where
 
 -- A lemma in no fragment that is Proved or Failed whatever the step limit.
 pub record IsDecided (h : History) (hints : Hints) (lemma : Term) : Type 0 where
-  pub outside : IsOutsideFragments h lemma
+  pub outside : IsInNoFragment h lemma
   pub by : IsDecidedBy h hints lemma

@@ -66,11 +66,11 @@ terms_law h name t ready is = terms_from [] h name t ready is
 -- ---- definitions
 
 -- what a definition is besides that its body is over the history's functions
-record IsPlain (d : Definition) : Type 0 where
-  distinct : are_distinct d.formals ≡ true
-  spelled : Each IsVariable d.formals
-  closed : HasVariables d.formals d.body
-  shallow : depth_of d.body ≤ body_depth
+pub record IsPlain (d : Definition) : Type 0 where
+  pub distinct : are_distinct d.formals ≡ true
+  pub spelled : Each IsVariable d.formals
+  pub closed : HasVariables d.formals d.body
+  pub shallow : depth_of d.body ≤ body_depth
 
 plain_from : (b h : History) → ReadyFrom b h → Each IsPlain (events_definitions h)
 plain_from b [] w = tt
@@ -85,7 +85,7 @@ plain_from b (Lemma n classes t ∷ h) w = plain_from (b ++ Lemma n classes t �
 plain_from b (Toggle n old disabled ∷ h) w = plain_from (b ++ Toggle n old disabled ∷ []) h w.1
 
 -- the same of the ground history, by a test
-abbrev is_variable : Name → Bool
+abbrev pub is_variable : Name → Bool
 is_variable x = is_symbol x && not (has_name x constant_names)
 
 abbrev is_plain : Definition → Bool
@@ -95,7 +95,7 @@ ground_plain : list_all is_plain ground_definitions ≡ true
 unfolding numeral number_of tree_depth
 ground_plain = refl
 
-variable_told : (x : Name) → is_variable x ≡ true → IsVariable x
+pub variable_told : (x : Name) → is_variable x ≡ true → IsVariable x
 variable_told x e =
     record { symbol = and_left (is_symbol x) (not (has_name x constant_names)) e; other = not_true (has_name x constant_names) (and_right (is_symbol x) (not (has_name x constant_names)) e) }
   where
@@ -122,7 +122,7 @@ plains_told : (ds : List Definition) → list_all is_plain ds ≡ true → Each 
 plains_told [] e = tt
 plains_told (d ∷ ds) e = (plain_told d (and_left (is_plain d) (list_all is_plain ds) e), plains_told ds (and_right (is_plain d) (list_all is_plain ds) e))
 
-each_plain : (h : History) → IsReady h → Each IsPlain (ground_definitions ++ events_definitions h)
+pub each_plain : (h : History) → IsReady h → Each IsPlain (ground_definitions ++ events_definitions h)
 each_plain h ready = each_append IsPlain ground_definitions (events_definitions h) (plains_told ground_definitions ground_plain) (plain_from [] h ready)
 
 found_event : (f : Name) (es : List Event) (e : Event) → event_in f es ≡ Some e → IsAmong e es
@@ -143,7 +143,7 @@ pub looked_up_defines : (h : History) (f : Name) (d : Definition) → looked_up 
 looked_up_defines h f d is =
     subst (IsAmong d) (definitions_join ground_history h) (own_definition (all_events h) d (found_event f (all_events h) (Defines d) is))
 
-variables_are : (P : Name → Type 0) (xs : List Name) (t : Term) → Each P xs → HasVariables xs t → VariablesAre P t
+pub variables_are : (P : Name → Type 0) (xs : List Name) (t : Term) → Each P xs → HasVariables xs t → VariablesAre P t
 variables_are P xs (Variable x) each among = each_at P x xs each among
 variables_are P xs (Function f) each among = tt
 variables_are P xs (Applied t u) each among = (variables_are P xs t each among.0, variables_are P xs u each among.1)

@@ -4,7 +4,7 @@ use Rattle.nq_logic.specs.Terms.{Term}
 use Rattle.nq_logic.specs.Histories.{History}
 use Rattle.nq_proof.specs.Rules.{has_only}
 use Rattle.nq_fragments.specs.Tautologies.{IsSmallTautology}
-use Rattle.nq_fragments.specs.Fragments.{IsFirstByInstance, IsInNoFragment}
+use Rattle.nq_fragments.specs.Fragments.{IsFirstByEvaluation, IsFirstByInstance, IsInNoFragment}
 use Rattle.nq_bank.specs.Content.{Content}
 use Rattle.nq_history.specs.declared.entry.Entry.{Entry}
 use Rattle.nq_history.specs.Events.{ground_length, HistoryStands}
@@ -34,10 +34,10 @@ pub record AtLeast (IsLearnt : List Entry → Type 0) (kept : ℕ) : Type 0 wher
   pub learnt : IsLearnt entries
   pub within : kept ≤ length entries
 
--- the fragment is the first that holds a lemma; the one of ground terms with a value is not built yet
+-- the fragment is the first that holds a lemma
 abbrev pub IsFirstFragment : History → Term → Quick → Type 0
 IsFirstFragment h t Taut = IsSmallTautology t
-IsFirstFragment h t Eval = ⊥
+IsFirstFragment h t Eval = IsFirstByEvaluation h t
 IsFirstFragment h t Inst = IsFirstByInstance h t
 
 -- whether a proof is by a fragment

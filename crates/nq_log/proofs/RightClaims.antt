@@ -16,8 +16,7 @@ use Rattle.nq_log.specs.TermLines.{function_line, variable_line, numeral_line, c
 use Rattle.nq_log.specs.RuleLines.{rule_line, induct_line, drop_line, case_line, hypothesis_line}
 use Rattle.nq_log.specs.ClosingLines.{part_line, measure_line, bootstrap_claim, shell_claim, declaration_claim, axiom_claim, lemma_claim, toggle_claim, undo_claim, definition_claim}
 use Rattle.nq_log.specs.Logs.{continued, claimed, step_by, is_definition_word, step, with_claim, wrong, Malformed, NotAllowed, Reading, read_end, read_lines, is_header, read_log, cut_lines}
-use Rattle.nq_log.specs.Laws.{ClaimHolds, ClaimsHold, IsSound, RightClaims, Narrows, NarrowClaims, BuiltNarrows}
-use Rattle.nq_log.specs.Stage.{is_built}
+use Rattle.nq_log.specs.Laws.{ClaimHolds, ClaimsHold, IsSound, RightClaims, Narrows, NarrowClaims}
 use Rattle.nq_log.proofs.Options.{nothing_found, found_same, bound, allowed}
 use Rattle.nq_log.proofs.Events.{sound_after}
 use Rattle.nq_log.proofs.TermSteps.{IsRight, with_block, function_right, variable_right, numeral_right, call_right}
@@ -140,8 +139,3 @@ narrow_claims_law rules_hold next narrows text = log_right rules_hold next narro
 
 pub right_claims_law : FullSoundness → RightClaims
 right_claims_law rules_hold text = narrow_claims_law rules_hold step (λ s line taken e. e) text
-
-pub built_narrows_law : BuiltNarrows
-built_narrows_law s line taken e =
-    let a = bound (only_when (is_built line) line) (λ line. step s line) taken e in
-    subst (λ l. step s l ≡ Some taken) (sym (allowed (is_built line) line a.0 a.1).1) a.2

@@ -6,13 +6,11 @@ use Rattle.nq_logtext.specs.Reading.{◌>>=◌, line_of}
 use Rattle.nq_logtext.proofs.Cuts.{IsFree}
 use Rattle.nq_logtext.proofs.LineLaws.{line_again, line_free}
 use Rattle.nq_logic.specs.Terms.{Each}
-use Rattle.nq_logic.proofs.Lists.{each_append, each_mono}
+use Rattle.nq_logic.proofs.Lists.{each_append}
 use Rattle.nq_logic.specs.Histories.{History}
-use Rattle.nq_log.specs.States.{State, Claim, after_claim, start_of, Step, Ends, only_when}
+use Rattle.nq_log.specs.States.{State, Claim, after_claim, start_of, Step, Ends}
 use Rattle.nq_log.specs.Logs.{step, Right, Reading, with_claim, Cut, with_byte, cut_lines, read_lines, read_log, reading_by}
 use Rattle.nq_log.specs.Blocks.{block_claim, blocks_claim, header_line, end_line, lines_text, lines_of, log_text, OneLog}
-use Rattle.nq_log.specs.Stage.{built_step}
-use Rattle.nq_log.specs.Built.{IsBuilt, BuiltLog}
 use Rattle.nq_log.proofs.Options.{nothing_found, found_same}
 use Rattle.nq_log.proofs.Blocks.{by_first, read_so, Agrees, block_read, all_agree}
 
@@ -94,12 +92,3 @@ all_agree_in (block ∷ blocks) = (all_agree block, all_agree_in blocks)
 
 pub one_log_law : OneLog
 one_log_law blocks claims all e = log_read step blocks claims (λ s. refl) all (all_agree_in blocks) e
-
--- ---- a reading where only built lines are allowed agrees about them
-
-built_agrees : (line : Line) → IsBuilt line → Agrees built_step line
-built_agrees line built s = ap (λ b. only_when b line >>= λ line. step s line) built
-
-pub built_log_law : BuiltLog
-built_log_law blocks claims all built e =
-    log_read built_step blocks claims (built_agrees end_line refl) all (each_mono (Each IsBuilt) (Each (Agrees built_step)) (each_mono IsBuilt (Agrees built_step) built_agrees) blocks built) e

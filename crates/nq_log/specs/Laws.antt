@@ -12,7 +12,6 @@ use Rattle.nq_logic.specs.ShellPrinciple.{IsShellAcceptedIn}
 use Rattle.nq_logic.specs.Classes.{without_classes}
 use Rattle.nq_log.specs.States.{Block, State, Claim, Grounded, Adds, Undoes, Step, after_claim}
 use Rattle.nq_log.specs.Logs.{step, reading_by, claims_of}
-use Rattle.nq_log.specs.Stage.{built_step}
 
 -- What stands behind an event that is added to the history: a shell meets the Shell Principle, a definition the Definition
 -- Principle, and a lemma is derivable.
@@ -55,10 +54,6 @@ Narrows next = (s : State) (line : Line) (taken : Step) → next s line ≡ Some
 -- so it is where fewer lines are allowed
 abbrev pub NarrowClaims : Type 0
 NarrowClaims = (next : State → Line → Option Step) → Narrows next → (text : List ℕ) → ClaimsHold [] (reading_by next text).claims
-
--- the lines that are built are allowed only where a log allows them
-abbrev pub BuiltNarrows : Type 0
-BuiltNarrows = Narrows built_step
 
 -- rule classes change nothing of what a line leads to
 abbrev pub StepsIgnoreClasses : Type 0

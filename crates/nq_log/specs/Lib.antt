@@ -8,7 +8,5 @@ pub mod Logs
 pub mod Laws
 pub mod Blocks
 pub mod Growing
-pub mod Stage
-pub mod Built
 pub mod Streams
 pub mod Readers

@@ -9,21 +9,19 @@
 //! the laws of `log_growth`. Neither speaks of derivations.
 #![tactic(auto)]
 
-ghost use Rattle.nq_log.specs.Laws.{RightClaims, NarrowClaims, BuiltNarrows, StepsIgnoreClasses};
+ghost use Rattle.nq_log.specs.Laws.{RightClaims, NarrowClaims, StepsIgnoreClasses};
 ghost use Rattle.nq_log.specs.Growing.{OneMoreLine, ClosingLine, OneMoreBlock, MoreText, OneMoreClaim};
 ghost use Rattle.nq_log.specs.Blocks.{OneCut, NoCut, OneBlock, OneLog};
-ghost use Rattle.nq_log.specs.Built.{BuiltLog};
 ghost use Rattle.nq_log.specs.Readers.{ReaderBegins, ReaderTakes, ReaderMoves, ReaderClaims, ReaderStops, ReaderEnds};
 ghost use Rattle.nq_log.specs.Streams.{LineMoves, TextEnds, NothingFollows, LineIsRead, NoLineIsRead};
 
 use nq_arith::full_soundness;
 
 /// Whatever text is read as a log, each of its claims before its first wrong line holds in the history that the claims
-/// before it make. So it is where fewer lines are allowed than in a log, as those that are built so far.
+/// before it make. So it is where fewer lines are allowed than in a log.
 pub fn right_claims()
     ensures right { RightClaims }
     ensures narrow { NarrowClaims }
-    ensures built { BuiltNarrows }
 {
     full_soundness();
 }
@@ -64,11 +62,9 @@ pub fn one_block()
     ensures { OneBlock }
 {}
 
-/// The text of blocks that end in claims is a right log with these claims. So it is where fewer lines are allowed than in a
-/// log, as those that are built so far, if all lines of the blocks are among them.
+/// The text of blocks that end in claims is a right log with these claims.
 pub fn one_log()
-    ensures right { OneLog }
-    ensures built { BuiltLog }
+    ensures { OneLog }
 {}
 
 /// A log grows at its end by lines, closing lines and blocks, and its text with it.

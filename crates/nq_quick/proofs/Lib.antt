@@ -18,4 +18,5 @@ pub mod ProvingLemmas
 pub mod EarlierLemmas
 pub mod EventLemmas
 pub mod ReadyLemmas
+pub mod FragmentLemmas
 pub mod FirstPassLemmas

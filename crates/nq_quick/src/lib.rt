@@ -8,8 +8,11 @@
 //! between a few lines and, at most, three for each node in each way: 2,900 for the parity of eight terms in two orders, which
 //! needs all 256 ways.
 //!
-//! A goal that is no such tautology is matched with the axioms and lemmas of the history, oldest first. Where it is an instance
-//! of one of them, two lines prove it: the term of the axiom or lemma, and its instance.
+//! A goal that is no such tautology, and is ground, is evaluated. Where its value isn't F, the lines of the value and a few more
+//! prove it.
+//!
+//! Any other goal is matched with the axioms and lemmas of the history, oldest first. Where it is an instance of one of them,
+//! two lines prove it: the term of the axiom or lemma, and its instance.
 #![tactic(auto)]
 
 // what stands at the head of a term

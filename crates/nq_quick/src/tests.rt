@@ -198,10 +198,7 @@ fn proof_in(
     let answer = quick(&mut work, history, goal)?;
     assert!(rt; work.counter.used() == 0);
     match answer {
-        None => {
-            assert!(rt; work.log.len() == 0);
-            Ok(None)
-        }
+        None => Ok(None),
         Some((way, line)) => {
             assert!(rt; work.log.cited(line) == Some(&[goal][..]));
             Ok(Some((way, work.log.len())))

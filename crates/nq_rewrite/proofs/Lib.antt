@@ -1,3 +1,1 @@
-pub mod RewritingLemmas
-pub mod ArgumentLemmas
-pub mod HeldLemmas
+mod StepLemmas

@@ -1,17 +1,111 @@
 //! The rewriter.
 ghost use Rattle.std.specs.Prelude.{◌≡◌, IfOk, Err};
 ghost use Rattle.nq_bank.specs.Content.{term_at, terms_at};
-ghost use Rattle.nq_kernel.specs.Growing.{WorkGrows};
+ghost use Rattle.nq_kernel.specs.Growing.{WorkGrows, WorkStands};
 ghost use Rattle.nq_lines.specs.Lines.{IsTermIn};
-ghost use Rattle.nq_rewrite.specs.Rewriting.{CanRewrite, IsRewritten, ShowsEqual};
+ghost use Rattle.nq_reduce.specs.Rewriting.{CanRewrite, IsRewritten, ShowsEqual};
 
-use crate::results::Rewritten;
 use crate::rewriting::rewrite_term;
-use crate::way::first_way;
+use crate::rules::{Rules, make_rules};
+use crate::search::Search;
+use crate::terms::add_terms;
+use crate::way::Way;
 use nq_bank::TermId;
 use nq_history::{Hints, History};
 use nq_kernel::{Stop, Work};
 use nq_lines::reflexive;
+use nq_reduce::Rewritten;
+use std::alloc::AllocError;
+
+/// The terms that stand in a term and in what is assumed, where only memory can be wanting.
+fn terms_in(
+    work: &Work,
+    history: &History,
+    assumed: &[TermId],
+    t: TermId,
+) -> Result<Vec<TermId>, AllocError>
+    requires { CanRewrite history.now work.now assumed.now t }
+{
+    let mut goal = Vec::new(work.bank.alloc());
+    add_terms(&work.bank, &mut goal, t)?;
+    for a in assumed {
+        add_terms(&work.bank, &mut goal, *a)?;
+    }
+    Ok(goal)
+}
+
+/// The terms that stand in a term and in what is assumed.
+fn goal_of(
+    work: &Work,
+    history: &History,
+    assumed: &[TermId],
+    t: TermId,
+) -> Result<Vec<TermId>, Stop>
+    requires can { CanRewrite history.now work.now assumed.now t }
+    ensures out { result ≡ Err Stop.OutOfSteps → ⊥ }
+{
+    match terms_in(work, history, assumed, t) {
+        Ok(goal) => Ok(goal),
+        Err(_) => Err(Stop::Memory),
+    }
+}
+
+/// The rules of a history that are enabled for these hints.
+fn rules_of(work: &Work, history: &History, hints: &Hints) -> Result<Rules, Stop>
+    requires stands { WorkStands history.now work.now }
+    ensures out { result ≡ Err Stop.OutOfSteps → ⊥ }
+{
+    match make_rules(&work.bank, history, hints) {
+        Ok(rules) => Ok(rules),
+        Err(_) => Err(Stop::Memory),
+    }
+}
+
+/// Rewrites a term by these rules, where these are assumed. Where nothing changes there is no line.
+pub fn rewrite_by(
+    work: &mut Work,
+    history: &History,
+    hints: &Hints,
+    rules: &Rules,
+    assumed: &[TermId],
+    t: TermId,
+) -> Result<Rewritten, Stop>
+    requires can { CanRewrite history.now work.old assumed.now t }
+    ensures ok { IfOk result (λ r. IsRewritten history.now work.new (terms_at work.old.bank assumed.now) (term_at work.old.bank t) r) }
+    ensures grows { WorkGrows history.now work.old work.new }
+    ensures out { result ≡ Err Stop.OutOfSteps → work.new.counter.used ≡ work.new.counter.limit }
+{
+    let alloc = work.bank.alloc();
+    let goal = goal_of(work, history, assumed, t)?;
+    let mut search = Search::new(alloc);
+    let way = Way {
+        hints,
+        rules,
+        goal: goal.as_slice(),
+        relieved: Vec::new(alloc),
+        opening: Vec::new(alloc),
+        guard: None,
+        mark: 0,
+    };
+    rewrite_term(work, history, &way, &mut search, assumed, 0, t)
+}
+
+/// Rewrites a term where these are assumed. Where nothing changes there is no line.
+pub fn rewritten(
+    work: &mut Work,
+    history: &History,
+    hints: &Hints,
+    assumed: &[TermId],
+    t: TermId,
+) -> Result<Rewritten, Stop>
+    requires can { CanRewrite history.now work.old assumed.now t }
+    ensures ok { IfOk result (λ r. IsRewritten history.now work.new (terms_at work.old.bank assumed.now) (term_at work.old.bank t) r) }
+    ensures grows { WorkGrows history.now work.old work.new }
+    ensures out { result ≡ Err Stop.OutOfSteps → work.new.counter.used ≡ work.new.counter.limit }
+{
+    let rules = rules_of(work, history, hints)?;
+    rewrite_by(work, history, hints, &rules, assumed, t)
+}
 
 /// Rewrites a term where these are assumed. The line has only the equation of the term and the new one, and the NOTs of what
 /// is assumed.
@@ -28,8 +122,7 @@ pub fn rewrite(
     ensures grows { WorkGrows history.now work.old work.new }
     ensures out { result ≡ Err Stop.OutOfSteps → work.new.counter.used ≡ work.new.counter.limit }
 {
-    let way = first_way(work.bank.alloc());
-    let new = rewrite_term(work, history, hints, &way, assumed, 0, t)?;
+    let new = rewritten(work, history, hints, assumed, t)?;
     let line = line_of(work, history, assumed, t, new)?;
     Ok((new.term, line))
 }

@@ -3,44 +3,35 @@
 //!
 //! Each mechanism has one contract: it gives a term, and a line that has only the equation of the old term and the new one and
 //! the NOTs of what is assumed. So `(APPEND (CONS A B) C)` gives `(CONS A (APPEND B C))` by one opening, whose IF is taken by its
-//! test, while `(APPEND B C)` stays. What is tried, and in which order, is decided in `way`, and no contract speaks of it.
+//! test, while `(APPEND B C)` stays. What is tried, and in which order, is decided in `way` and in the modules before it, and no
+//! contract speaks of it.
 #![tactic(auto)]
 
-// what a rewriting comes to
-mod results;
+// walks over terms, and the order of terms
+mod terms;
 
-// one rewriting after another
-mod following;
+// the rules of a history, by the functions of their left sides
+mod rules;
 
-// rewritten arguments
-mod congruence;
+// what is worth opening
+mod measures;
 
-// what is known of a test
-mod known;
-
-// the branches of an IF
-mod branches;
-
-// an IF that is joined from its branches
-mod joining;
-mod whole;
-
-// terms whose NOT is assumed
-mod assumptions;
-
-// what shown terms make of a term
-mod held;
-
-// what a rewriting stands within
+// what a rewriting stands within, and what it learns
+mod search;
 mod way;
 
+// single steps
+mod steps;
+
 // the recursion: what stands within a term, then the term itself by assumptions and openings, and by rules
+mod opening;
 mod outside;
 mod reducing;
 mod rewriting;
+mod testing;
 
 // the rewriter
 mod entrance;
 
-pub use entrance::rewrite;
-pub use results::Rewritten;
+pub use entrance::{rewrite, rewrite_by, rewritten};
+pub use rules::{Rules, make_rules};

@@ -1,28 +1,31 @@
-//! Rewriting a call whose arguments were rewritten: by an assumption, by a rule, or by its opening.
+//! Rewriting a call whose arguments were rewritten: IFs are taken out of it; then by what is assumed, and by rules.
 ghost use Rattle.std.specs.Prelude.{◌≡◌, ◌≤◌, IfOk, Err};
 ghost use Rattle.nq_logic.specs.Sizes.{depth_limit};
 ghost use Rattle.nq_bank.specs.Content.{term_at, terms_at};
 ghost use Rattle.nq_kernel.specs.Growing.{WorkGrows};
-ghost use Rattle.nq_rewrite.specs.Rewriting.{CanRewrite, IsRewritten};
+ghost use Rattle.nq_reduce.specs.Held.{IsHeld};
+ghost use Rattle.nq_reduce.specs.Rewriting.{CanRewrite, IsRewritten};
 
-use crate::assumptions::by_assumption;
-use crate::following::{follow, keep};
-use crate::held::opening_of;
+use crate::opening::rewrite_by_opening;
 use crate::reducing::try_rules;
-use crate::results::{Rewritten, unchanged};
 use crate::rewriting::rewrite_term;
-use crate::way::{Way, is_opened, opening_more};
+use crate::search::Search;
+use crate::steps::lifted_test;
+use crate::testing::rewrite_divided;
+use crate::way::{Way, is_bad};
 use nq_bank::TermId;
-use nq_history::{Hints, History};
+use nq_history::History;
 use nq_kernel::{Stop, Work};
+use nq_lines::Fact;
+use nq_reduce::{Rewritten, follow, reduce_call, rewritten_by, unchanged};
 
 /// Rewrites a term whose arguments were rewritten, and then what comes of it.
 #[cycle(rewriting)]
 pub fn rewrite_outside(
     work: &mut Work,
     history: &History,
-    hints: &Hints,
-    way: &Way,
+    way: &Way<'_>,
+    search: &mut Search,
     assumed: &[TermId],
     depth: u32,
     t: TermId,
@@ -33,20 +36,43 @@ pub fn rewrite_outside(
     ensures grows { WorkGrows history.now work.old work.new }
     ensures out { result ≡ Err Stop.OutOfSteps → work.new.counter.used ≡ work.new.counter.limit }
 {
-    let step = by_assumption(work, history, assumed, t)?;
+    match lifted_test(work, history, assumed, t) {
+        Some(p) => rewrite_divided(work, history, way, search, assumed, depth, t, p),
+        None => rewrite_call(work, history, way, search, assumed, depth, t),
+    }
+}
+
+/// Rewrites a term by a single step, and then what comes of it; where there is none, by a rule or an opening.
+#[cycle(rewriting)]
+fn rewrite_call(
+    work: &mut Work,
+    history: &History,
+    way: &Way<'_>,
+    search: &mut Search,
+    assumed: &[TermId],
+    depth: u32,
+    t: TermId,
+) -> Result<Rewritten, Stop>
+    requires depth { depth ≤ depth_limit }
+    requires can { CanRewrite history.now work.old assumed.now t }
+    ensures ok { IfOk result (λ r. IsRewritten history.now work.new (terms_at work.old.bank assumed.now) (term_at work.old.bank t) r) }
+    ensures grows { WorkGrows history.now work.old work.new }
+    ensures out { result ≡ Err Stop.OutOfSteps → work.new.counter.used ≡ work.new.counter.limit }
+{
+    let step = reduce_call(work, history, assumed, t)?;
     match step.line {
-        Some(_) => rewrite_on(work, history, hints, way, assumed, depth, t, step),
-        None => rewrite_by_rules(work, history, hints, way, assumed, depth, t),
+        Some(_) => rewrite_on(work, history, way, search, assumed, depth, t, step),
+        None => rewrite_further(work, history, way, search, assumed, depth, t),
     }
 }
 
 /// Rewrites what a term was rewritten to.
 #[cycle(rewriting)]
-fn rewrite_on(
+pub fn rewrite_on(
     work: &mut Work,
     history: &History,
-    hints: &Hints,
-    way: &Way,
+    way: &Way<'_>,
+    search: &mut Search,
     assumed: &[TermId],
     depth: u32,
     t: TermId,
@@ -59,17 +85,17 @@ fn rewrite_on(
     ensures grows { WorkGrows history.now work.old work.new }
     ensures out { result ≡ Err Stop.OutOfSteps → work.new.counter.used ≡ work.new.counter.limit }
 {
-    let rest = rewrite_term(work, history, hints, way, assumed, depth + 1, step.term)?;
+    let rest = rewrite_term(work, history, way, search, assumed, depth + 1, step.term)?;
     follow(work, history, assumed, t, step, rest)
 }
 
-/// Rewrites a term by a rule, and then what comes of it; where there is none, by an opening.
+/// Rewrites a term by a rule or an opening. A call that makes an opening not worth it gives that up.
 #[cycle(rewriting)]
-fn rewrite_by_rules(
+fn rewrite_further(
     work: &mut Work,
     history: &History,
-    hints: &Hints,
-    way: &Way,
+    way: &Way<'_>,
+    search: &mut Search,
     assumed: &[TermId],
     depth: u32,
     t: TermId,
@@ -80,78 +106,38 @@ fn rewrite_by_rules(
     ensures grows { WorkGrows history.now work.old work.new }
     ensures out { result ≡ Err Stop.OutOfSteps → work.new.counter.used ≡ work.new.counter.limit }
 {
-    let step = try_rules(work, history, hints, way, assumed, depth, t)?;
+    if is_bad(&work.bank, history, way, t) {
+        search.give_up();
+        return Ok(unchanged(t));
+    }
+    match try_rules(work, history, way, search, assumed, depth, t, false)? {
+        Some(fact) => rewrite_by_fact(work, history, way, search, assumed, depth, t, fact),
+        None => rewrite_by_opening(work, history, way, search, assumed, depth, t),
+    }
+}
+
+/// Rewrites a term by a shown one, and then what comes of it; where that says nothing of it, by an opening.
+#[cycle(rewriting)]
+fn rewrite_by_fact(
+    work: &mut Work,
+    history: &History,
+    way: &Way<'_>,
+    search: &mut Search,
+    assumed: &[TermId],
+    depth: u32,
+    t: TermId,
+    fact: Fact,
+) -> Result<Rewritten, Stop>
+    requires depth { depth ≤ depth_limit }
+    requires can { CanRewrite history.now work.old assumed.now t }
+    requires fact { IsHeld history.now work.old (terms_at work.old.bank assumed.now) fact }
+    ensures ok { IfOk result (λ r. IsRewritten history.now work.new (terms_at work.old.bank assumed.now) (term_at work.old.bank t) r) }
+    ensures grows { WorkGrows history.now work.old work.new }
+    ensures out { result ≡ Err Stop.OutOfSteps → work.new.counter.used ≡ work.new.counter.limit }
+{
+    let step = rewritten_by(work, history, assumed, fact, t)?;
     match step.line {
-        Some(_) => rewrite_on(work, history, hints, way, assumed, depth, t, step),
-        None => rewrite_by_opening(work, history, hints, way, assumed, depth, t),
+        Some(_) => rewrite_on(work, history, way, search, assumed, depth, t, step),
+        None => rewrite_by_opening(work, history, way, search, assumed, depth, t),
     }
-}
-
-/// Rewrites a term by its opening, if it is opened.
-#[cycle(rewriting)]
-fn rewrite_by_opening(
-    work: &mut Work,
-    history: &History,
-    hints: &Hints,
-    way: &Way,
-    assumed: &[TermId],
-    depth: u32,
-    t: TermId,
-) -> Result<Rewritten, Stop>
-    requires depth { depth ≤ depth_limit }
-    requires can { CanRewrite history.now work.old assumed.now t }
-    ensures ok { IfOk result (λ r. IsRewritten history.now work.new (terms_at work.old.bank assumed.now) (term_at work.old.bank t) r) }
-    ensures grows { WorkGrows history.now work.old work.new }
-    ensures out { result ≡ Err Stop.OutOfSteps → work.new.counter.used ≡ work.new.counter.limit }
-{
-    if is_opened(&work.bank, history, hints, way, t) {
-        rewrite_opening(work, history, hints, way, assumed, depth, t)
-    } else {
-        Ok(unchanged(t))
-    }
-}
-
-/// Rewrites a term by its opening.
-#[cycle(rewriting)]
-fn rewrite_opening(
-    work: &mut Work,
-    history: &History,
-    hints: &Hints,
-    way: &Way,
-    assumed: &[TermId],
-    depth: u32,
-    t: TermId,
-) -> Result<Rewritten, Stop>
-    requires depth { depth ≤ depth_limit }
-    requires can { CanRewrite history.now work.old assumed.now t }
-    ensures ok { IfOk result (λ r. IsRewritten history.now work.new (terms_at work.old.bank assumed.now) (term_at work.old.bank t) r) }
-    ensures grows { WorkGrows history.now work.old work.new }
-    ensures out { result ≡ Err Stop.OutOfSteps → work.new.counter.used ≡ work.new.counter.limit }
-{
-    let body = opening_of(work, history, assumed, t)?;
-    rewrite_body(work, history, hints, way, assumed, depth, t, body)
-}
-
-/// Rewrites the body of a call, and drops the opening where it is not to be kept.
-#[cycle(rewriting)]
-fn rewrite_body(
-    work: &mut Work,
-    history: &History,
-    hints: &Hints,
-    way: &Way,
-    assumed: &[TermId],
-    depth: u32,
-    t: TermId,
-    step: Rewritten,
-) -> Result<Rewritten, Stop>
-    requires depth { depth ≤ depth_limit }
-    requires can { CanRewrite history.now work.old assumed.now t }
-    requires step { IsRewritten history.now work.old (terms_at work.old.bank assumed.now) (term_at work.old.bank t) step }
-    ensures ok { IfOk result (λ r. IsRewritten history.now work.new (terms_at work.old.bank assumed.now) (term_at work.old.bank t) r) }
-    ensures grows { WorkGrows history.now work.old work.new }
-    ensures out { result ≡ Err Stop.OutOfSteps → work.new.counter.used ≡ work.new.counter.limit }
-{
-    let within = opening_more(way, &work.bank, t)?;
-    let rest = rewrite_term(work, history, hints, &within, assumed, depth + 1, step.term)?;
-    keep(work, history, hints, assumed, t, step, rest)
 }

@@ -1,131 +1,186 @@
-//! Rewriting by rules whose hypotheses are relieved.
+//! Rules whose hypotheses are relieved.
 ghost use Rattle.std.specs.Prelude.{◌≡◌, ◌≤◌, ◌<◌, IfOk, IfSome, Err, length};
 ghost use Rattle.nq_logic.specs.Sizes.{depth_limit};
 ghost use Rattle.nq_bank.specs.Content.{IsNamed, term_at, terms_at};
 ghost use Rattle.nq_kernel.specs.Growing.{WorkGrows};
 ghost use Rattle.nq_lines.specs.Lines.{IsTermIn};
-ghost use Rattle.nq_rewrite.specs.Held.{IsHeld};
-ghost use Rattle.nq_rewrite.specs.Rewriting.{CanRewrite, IsRewritten};
+ghost use Rattle.nq_reduce.specs.Held.{IsHeld};
+ghost use Rattle.nq_reduce.specs.Rewriting.{CanRewrite};
 
-use crate::held::{conclusion_for, part_for, relieved, rewritten_by, rule_for};
-use crate::results::{Rewritten, unchanged};
 use crate::rewriting::rewrite_term;
-use crate::way::{Way, is_rule, may_relieve, relieving};
+use crate::rules::{Head, is_allowed};
+use crate::search::Search;
+use crate::steps::relieved_by;
+use crate::testing::known_test;
+use crate::way::{Way, fits, may_relieve, relieving};
 use nq_bank::{Sym, TermId, ground};
-use nq_history::{Hints, History};
+use nq_history::History;
 use nq_instances::two_in;
 use nq_kernel::{Stop, Work};
 use nq_lines::Fact;
+use nq_reduce::{conclusion_for, part_for, rule_for};
 
-/// Tries the rules of the history on a term, the newest first.
+/// Tries the rules on a term, the newest first: those that say that a term is true, or those that say what it equals.
 #[cycle(rewriting)]
 pub fn try_rules(
     work: &mut Work,
     history: &History,
-    hints: &Hints,
-    way: &Way,
+    way: &Way<'_>,
+    search: &mut Search,
     assumed: &[TermId],
     depth: u32,
     t: TermId,
-) -> Result<Rewritten, Stop>
+    truth: bool,
+) -> Result<Option<Fact>, Stop>
     requires depth { depth ≤ depth_limit }
     requires can { CanRewrite history.now work.old assumed.now t }
-    ensures ok { IfOk result (λ r. IsRewritten history.now work.new (terms_at work.old.bank assumed.now) (term_at work.old.bank t) r) }
+    ensures held { IfOk result (λ found. IfSome found (IsHeld history.now work.new (terms_at work.old.bank assumed.now))) }
     ensures grows { WorkGrows history.now work.old work.new }
     ensures out { result ≡ Err Stop.OutOfSteps → work.new.counter.used ≡ work.new.counter.limit }
 {
-    let count = history.len();
-    for place in 0..count {
-        let step = try_place(
-            work,
-            history,
-            hints,
-            way,
-            assumed,
-            depth,
-            t,
-            count - 1 - place,
-        )?;
-        if step.line.is_some() {
-            return Ok(step);
+    for place in 0..way.rules.heads.len() {
+        let found = try_place(work, history, way, search, assumed, depth, t, place, truth)?;
+        if found.is_some() {
+            return Ok(found);
         }
     }
-    Ok(unchanged(t))
+    Ok(None)
 }
 
-/// Tries the entry at a place of the history on a term.
+/// Tries the rule at a place, if it can be one of the term.
 #[cycle(rewriting)]
 fn try_place(
     work: &mut Work,
     history: &History,
-    hints: &Hints,
-    way: &Way,
+    way: &Way<'_>,
+    search: &mut Search,
     assumed: &[TermId],
     depth: u32,
     t: TermId,
-    place: u64,
-) -> Result<Rewritten, Stop>
+    place: usize,
+    truth: bool,
+) -> Result<Option<Fact>, Stop>
     requires depth { depth ≤ depth_limit }
     requires can { CanRewrite history.now work.old assumed.now t }
-    requires place { place < length history.now }
-    ensures ok { IfOk result (λ r. IsRewritten history.now work.new (terms_at work.old.bank assumed.now) (term_at work.old.bank t) r) }
+    ensures held { IfOk result (λ found. IfSome found (IsHeld history.now work.new (terms_at work.old.bank assumed.now))) }
     ensures grows { WorkGrows history.now work.old work.new }
     ensures out { result ≡ Err Stop.OutOfSteps → work.new.counter.used ≡ work.new.counter.limit }
 {
-    let e = history.entry(place);
-    if is_rule(history, hints, e) {
-        try_rule(work, history, hints, way, assumed, depth, t, e.name)
-    } else {
-        Ok(unchanged(t))
+    match fits(&work.bank, way, place, t, truth) {
+        Some(head) => try_head(work, history, way, search, assumed, depth, t, head),
+        None => Ok(None),
     }
 }
 
-/// Tries a rule on a term.
+/// Tries the rule of a left side on a term.
+#[cycle(rewriting)]
+fn try_head(
+    work: &mut Work,
+    history: &History,
+    way: &Way<'_>,
+    search: &mut Search,
+    assumed: &[TermId],
+    depth: u32,
+    t: TermId,
+    head: Head,
+) -> Result<Option<Fact>, Stop>
+    requires depth { depth ≤ depth_limit }
+    requires can { CanRewrite history.now work.old assumed.now t }
+    ensures held { IfOk result (λ found. IfSome found (IsHeld history.now work.new (terms_at work.old.bank assumed.now))) }
+    ensures grows { WorkGrows history.now work.old work.new }
+    ensures out { result ≡ Err Stop.OutOfSteps → work.new.counter.used ≡ work.new.counter.limit }
+{
+    if head.place < history.len() {
+        try_rule(
+            work,
+            history,
+            way,
+            search,
+            assumed,
+            depth,
+            t,
+            head,
+            history.entry(head.place).name,
+        )
+    } else {
+        Ok(None)
+    }
+}
+
+/// Tries the rule of a name on a term.
 #[cycle(rewriting)]
 fn try_rule(
     work: &mut Work,
     history: &History,
-    hints: &Hints,
-    way: &Way,
+    way: &Way<'_>,
+    search: &mut Search,
     assumed: &[TermId],
     depth: u32,
     t: TermId,
+    head: Head,
     name: Sym,
-) -> Result<Rewritten, Stop>
+) -> Result<Option<Fact>, Stop>
     requires depth { depth ≤ depth_limit }
     requires can { CanRewrite history.now work.old assumed.now t }
     requires name { IsNamed work.old.bank name }
-    ensures ok { IfOk result (λ r. IsRewritten history.now work.new (terms_at work.old.bank assumed.now) (term_at work.old.bank t) r) }
+    ensures held { IfOk result (λ found. IfSome found (IsHeld history.now work.new (terms_at work.old.bank assumed.now))) }
     ensures grows { WorkGrows history.now work.old work.new }
     ensures out { result ≡ Err Stop.OutOfSteps → work.new.counter.used ≡ work.new.counter.limit }
 {
     match rule_for(work, history, assumed, name, t)? {
-        Some(fact) => reduce(work, history, hints, way, assumed, depth + 1, t, fact),
-        None => Ok(unchanged(t)),
+        Some(fact) => try_instance(work, history, way, search, assumed, depth, t, head, fact),
+        None => Ok(None),
     }
 }
 
-/// Rewrites a term by an instance of a rule, whose hypotheses are relieved first.
+/// Tries an instance of a rule on a term, where the order of terms allows it.
+#[cycle(rewriting)]
+fn try_instance(
+    work: &mut Work,
+    history: &History,
+    way: &Way<'_>,
+    search: &mut Search,
+    assumed: &[TermId],
+    depth: u32,
+    t: TermId,
+    head: Head,
+    fact: Fact,
+) -> Result<Option<Fact>, Stop>
+    requires depth { depth ≤ depth_limit }
+    requires can { CanRewrite history.now work.old assumed.now t }
+    requires fact { IsHeld history.now work.old (terms_at work.old.bank assumed.now) fact }
+    ensures held { IfOk result (λ found. IfSome found (IsHeld history.now work.new (terms_at work.old.bank assumed.now))) }
+    ensures grows { WorkGrows history.now work.old work.new }
+    ensures out { result ≡ Err Stop.OutOfSteps → work.new.counter.used ≡ work.new.counter.limit }
+{
+    if is_allowed(&work.bank, head, t, fact.term) {
+        reduce(work, history, way, search, assumed, depth + 1, t, fact)
+    } else {
+        Ok(None)
+    }
+}
+
+/// What an instance of a rule says of a term, after its hypotheses were relieved.
 #[cycle(rewriting)]
 fn reduce(
     work: &mut Work,
     history: &History,
-    hints: &Hints,
-    way: &Way,
+    way: &Way<'_>,
+    search: &mut Search,
     assumed: &[TermId],
     depth: u32,
     t: TermId,
     fact: Fact,
-) -> Result<Rewritten, Stop>
+) -> Result<Option<Fact>, Stop>
     requires can { CanRewrite history.now work.old assumed.now t }
     requires fact { IsHeld history.now work.old (terms_at work.old.bank assumed.now) fact }
-    ensures ok { IfOk result (λ r. IsRewritten history.now work.new (terms_at work.old.bank assumed.now) (term_at work.old.bank t) r) }
+    ensures held { IfOk result (λ found. IfSome found (IsHeld history.now work.new (terms_at work.old.bank assumed.now))) }
     ensures grows { WorkGrows history.now work.old work.new }
     ensures out { result ≡ Err Stop.OutOfSteps → work.new.counter.used ≡ work.new.counter.limit }
 {
     let _ = work.counter.used();
     work.enter(depth)?;
-    reduce_entered(work, history, hints, way, assumed, depth, t, fact)
+    reduce_entered(work, history, way, search, assumed, depth, t, fact)
 }
 
 /// The same, after the entry was counted.
@@ -133,25 +188,25 @@ fn reduce(
 fn reduce_entered(
     work: &mut Work,
     history: &History,
-    hints: &Hints,
-    way: &Way,
+    way: &Way<'_>,
+    search: &mut Search,
     assumed: &[TermId],
     depth: u32,
     t: TermId,
     fact: Fact,
-) -> Result<Rewritten, Stop>
+) -> Result<Option<Fact>, Stop>
     requires depth { depth ≤ depth_limit }
     requires can { CanRewrite history.now work.old assumed.now t }
     requires fact { IsHeld history.now work.old (terms_at work.old.bank assumed.now) fact }
-    ensures ok { IfOk result (λ r. IsRewritten history.now work.new (terms_at work.old.bank assumed.now) (term_at work.old.bank t) r) }
+    ensures held { IfOk result (λ found. IfSome found (IsHeld history.now work.new (terms_at work.old.bank assumed.now))) }
     ensures grows { WorkGrows history.now work.old work.new }
     ensures out { result ≡ Err Stop.OutOfSteps → work.new.counter.used ≡ work.new.counter.limit }
 {
     match two_in(work, history, ground::IMPLIES, fact.term) {
         Some(sides) => reduce_implication(
-            work, history, hints, way, assumed, depth, t, fact, sides.left,
+            work, history, way, search, assumed, depth, t, fact, sides.left,
         ),
-        None => reduce_conclusion(work, history, hints, way, assumed, depth, t, fact),
+        None => reduce_conclusion(work, history, way, search, assumed, depth, t, fact),
     }
 }
 
@@ -160,25 +215,25 @@ fn reduce_entered(
 fn reduce_implication(
     work: &mut Work,
     history: &History,
-    hints: &Hints,
-    way: &Way,
+    way: &Way<'_>,
+    search: &mut Search,
     assumed: &[TermId],
     depth: u32,
     t: TermId,
     fact: Fact,
     condition: TermId,
-) -> Result<Rewritten, Stop>
+) -> Result<Option<Fact>, Stop>
     requires depth { depth ≤ depth_limit }
     requires can { CanRewrite history.now work.old assumed.now t }
     requires fact { IsHeld history.now work.old (terms_at work.old.bank assumed.now) fact }
     requires condition { IsTermIn history.now work.old condition }
-    ensures ok { IfOk result (λ r. IsRewritten history.now work.new (terms_at work.old.bank assumed.now) (term_at work.old.bank t) r) }
+    ensures held { IfOk result (λ found. IfSome found (IsHeld history.now work.new (terms_at work.old.bank assumed.now))) }
     ensures grows { WorkGrows history.now work.old work.new }
     ensures out { result ≡ Err Stop.OutOfSteps → work.new.counter.used ≡ work.new.counter.limit }
 {
-    match relieve(work, history, hints, way, assumed, depth, condition)? {
-        Some(known) => reduce_relieved(work, history, hints, way, assumed, depth, t, fact, known),
-        None => Ok(unchanged(t)),
+    match relieve(work, history, way, search, assumed, depth, condition)? {
+        Some(shown) => reduce_relieved(work, history, way, search, assumed, depth, t, fact, shown),
+        None => Ok(None),
     }
 }
 
@@ -187,25 +242,25 @@ fn reduce_implication(
 fn reduce_relieved(
     work: &mut Work,
     history: &History,
-    hints: &Hints,
-    way: &Way,
+    way: &Way<'_>,
+    search: &mut Search,
     assumed: &[TermId],
     depth: u32,
     t: TermId,
     fact: Fact,
-    known: Fact,
-) -> Result<Rewritten, Stop>
+    shown: Fact,
+) -> Result<Option<Fact>, Stop>
     requires depth { depth ≤ depth_limit }
     requires can { CanRewrite history.now work.old assumed.now t }
     requires fact { IsHeld history.now work.old (terms_at work.old.bank assumed.now) fact }
-    requires known { IsHeld history.now work.old (terms_at work.old.bank assumed.now) known }
-    ensures ok { IfOk result (λ r. IsRewritten history.now work.new (terms_at work.old.bank assumed.now) (term_at work.old.bank t) r) }
+    requires shown { IsHeld history.now work.old (terms_at work.old.bank assumed.now) shown }
+    ensures held { IfOk result (λ found. IfSome found (IsHeld history.now work.new (terms_at work.old.bank assumed.now))) }
     ensures grows { WorkGrows history.now work.old work.new }
     ensures out { result ≡ Err Stop.OutOfSteps → work.new.counter.used ≡ work.new.counter.limit }
 {
-    match conclusion_for(work, history, assumed, fact, known, t)? {
-        Some(next) => reduce(work, history, hints, way, assumed, depth + 1, t, next),
-        None => Ok(unchanged(t)),
+    match conclusion_for(work, history, assumed, fact, shown, t)? {
+        Some(next) => reduce(work, history, way, search, assumed, depth + 1, t, next),
+        None => Ok(None),
     }
 }
 
@@ -214,23 +269,23 @@ fn reduce_relieved(
 fn reduce_conclusion(
     work: &mut Work,
     history: &History,
-    hints: &Hints,
-    way: &Way,
+    way: &Way<'_>,
+    search: &mut Search,
     assumed: &[TermId],
     depth: u32,
     t: TermId,
     fact: Fact,
-) -> Result<Rewritten, Stop>
+) -> Result<Option<Fact>, Stop>
     requires depth { depth ≤ depth_limit }
     requires can { CanRewrite history.now work.old assumed.now t }
     requires fact { IsHeld history.now work.old (terms_at work.old.bank assumed.now) fact }
-    ensures ok { IfOk result (λ r. IsRewritten history.now work.new (terms_at work.old.bank assumed.now) (term_at work.old.bank t) r) }
+    ensures held { IfOk result (λ found. IfSome found (IsHeld history.now work.new (terms_at work.old.bank assumed.now))) }
     ensures grows { WorkGrows history.now work.old work.new }
     ensures out { result ≡ Err Stop.OutOfSteps → work.new.counter.used ≡ work.new.counter.limit }
 {
     match part_for(work, history, assumed, fact, t)? {
-        Some(next) => reduce(work, history, hints, way, assumed, depth + 1, t, next),
-        None => rewritten_by(work, history, assumed, fact, t),
+        Some(next) => reduce(work, history, way, search, assumed, depth + 1, t, next),
+        None => Ok(Some(fact)),
     }
 }
 
@@ -239,8 +294,8 @@ fn reduce_conclusion(
 fn relieve(
     work: &mut Work,
     history: &History,
-    hints: &Hints,
-    way: &Way,
+    way: &Way<'_>,
+    search: &mut Search,
     assumed: &[TermId],
     depth: u32,
     t: TermId,
@@ -251,8 +306,8 @@ fn relieve(
     ensures grows { WorkGrows history.now work.old work.new }
     ensures out { result ≡ Err Stop.OutOfSteps → work.new.counter.used ≡ work.new.counter.limit }
 {
-    if may_relieve(way) {
-        relieve_within(work, history, hints, way, assumed, depth, t)
+    if may_relieve(&work.bank, way, search, t) {
+        relieve_within(work, history, way, search, assumed, depth, t)
     } else {
         Ok(None)
     }
@@ -263,8 +318,8 @@ fn relieve(
 fn relieve_within(
     work: &mut Work,
     history: &History,
-    hints: &Hints,
-    way: &Way,
+    way: &Way<'_>,
+    search: &mut Search,
     assumed: &[TermId],
     depth: u32,
     t: TermId,
@@ -275,7 +330,10 @@ fn relieve_within(
     ensures grows { WorkGrows history.now work.old work.new }
     ensures out { result ≡ Err Stop.OutOfSteps → work.new.counter.used ≡ work.new.counter.limit }
 {
-    let within = relieving(way, work.bank.alloc())?;
-    let new = rewrite_term(work, history, hints, &within, assumed, depth + 1, t)?;
-    relieved(work, history, assumed, t, new)
+    let within = relieving(way, &work.bank, t)?;
+    let new = rewrite_term(work, history, &within, search, assumed, depth + 1, t)?;
+    match known_test(work, history, &within, search, assumed, depth, new.term)? {
+        Some(known) => relieved_by(work, history, assumed, t, new, known),
+        None => Ok(None),
+    }
 }

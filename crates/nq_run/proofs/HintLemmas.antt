@@ -15,7 +15,8 @@ use Rattle.nq_kernel.specs.Over.{IsTermOf, IsVariable, TermIsIn}
 use Rattle.nq_event.specs.EventsAt.{hints_at, instance_at, pair_at}
 use Rattle.nq_spelling.specs.SpelledEvents.{AreSpelledHints}
 
-each_all : {X Y : Type 0} (f : X → Y) (P : Y → Type 0) (Q : X → Type 0) → ((x : X) → P (f x) → Q x) → (xs : List X) → Each P (map f xs) → All Q xs
+-- over a list, where what it is mapped to is so
+pub each_all : {X Y : Type 0} (f : X → Y) (P : Y → Type 0) (Q : X → Type 0) → ((x : X) → P (f x) → Q x) → (xs : List X) → Each P (map f xs) → All Q xs
 each_all f P Q so [] each = All-none Q
 each_all f P Q so (x ∷ xs) each = All-cons Q x xs (so x each.0) (each_all f P Q so xs each.1)
 

@@ -6,13 +6,17 @@ pub mod SessionLemmas
 pub mod ProvingLemmas
 pub mod TakingLemmas
 pub mod HintLemmas
+pub mod RecursionLemmas
 pub mod UndoingLemmas
 pub mod ShellLemmas
 pub mod NameLemmas
 pub mod DefinitionLemmas
+pub mod MeasuredLemmas
 pub mod LogLemmas
 pub mod TurnLemmas
 pub mod RightLogs
 pub mod RunLemmas
 pub mod EndingLemmas
 pub mod RunHistories
+pub mod SearchedLemmas
+pub mod ShapeLemmas

@@ -2,6 +2,7 @@
 use Rattle.std.proofs.Common.{◌≡◌, ◌<◌, ℕ, Bool, true, false, List, [], ◌∷◌, ◌++◌, length, Option, refl, sym, ap, ◌∙◌, subst, append_assoc, append-nil, arith}
 use Rattle.std.specs.Io.KnownBytes.{Appends, Keeps}
 use Rattle.std.proofs.KnownBytes.{Appends-nil, Appends-trans, Appends-kept}
+use Rattle.nq_logic.specs.Terms.{Term}
 use Rattle.nq_logic.specs.Histories.{History}
 use Rattle.nq_logic.specs.Histories as logic
 use Rattle.nq_logic.specs.Classes.{without_class, without_classes}
@@ -19,7 +20,7 @@ use Rattle.nq_events.specs.Events.{Event, BootStrap, AddShell, Dcl, Defn, AddAxi
 use Rattle.nq_events.specs.Reading.{event_of}
 use Rattle.nq_events.specs.Effects.{defined, history_after}
 use Rattle.nq_run.specs.Outcome.{Answered, AreBlocks, GrowsWithin, IsLogOf, Logs, LogsWithin}
-use Rattle.nq_answers.specs.Steps.{Runs, after, after_event, is_taken}
+use Rattle.nq_answers.specs.Steps.{Runs, after, after_event, is_taken, measure_by}
 
 -- ---- what the log's sink gains
 
@@ -111,27 +112,27 @@ open_added : (log : List ℕ) (claims : List Claim) (old : History) (block : Lis
 open_added log claims old block e opened is = open_claim log claims old (old ++ e ∷ []) block (Adds (without_class e)) opened is (sym ((classes_change_nothing_law old).appended (e ∷ [])))
 
 module _ (log : List ℕ) (claims : List Claim) (old : History) (block : List ℕ) (opened : IsOpenLog log claims (without_classes old)) where
-  -- an event that was taken
-  open_taken : (e : Event) → AreBlocks old (event_claims e) block → IsOpenLog (log ++ block) (claims ++ event_claims e) (without_classes (history_after old e None))
-  open_taken BootStrap is = open_claim log claims old [] block Grounded opened is refl
-  open_taken (AddShell shell) is = open_added log claims old block (logic.AddShell shell) opened is
-  open_taken (Dcl name formals) is = open_added log claims old block (logic.Declaration name (length formals)) opened is
-  open_taken (Defn name formals body measures) is = open_added log claims old block (defined name formals body None) opened is
-  open_taken (AddAxiom name classes t) is = open_added log claims old block (logic.Axiom name classes t) opened is
-  open_taken (ProveLemma name classes t hints) is = open_added log claims old block (logic.Lemma name classes t) opened is
-  open_taken (Toggle name other disabled) is = open_added log claims old block (logic.Toggle name other disabled) opened is
-  open_taken (Undo name) is = open_claim log claims old (before_event name old) block (Undoes name) opened is ((classes_change_nothing_law old).undone name)
-  open_taken Skipped is = open_same log claims old block opened is
+  -- an event that was taken, by the measure that its answer tells
+  open_taken : (e : Event) (m : Option Term) → AreBlocks old (event_claims e m) block → IsOpenLog (log ++ block) (claims ++ event_claims e m) (without_classes (history_after old e m))
+  open_taken BootStrap m is = open_claim log claims old [] block Grounded opened is refl
+  open_taken (AddShell shell) m is = open_added log claims old block (logic.AddShell shell) opened is
+  open_taken (Dcl name formals) m is = open_added log claims old block (logic.Declaration name (length formals)) opened is
+  open_taken (Defn name formals body measures) m is = open_added log claims old block (defined name formals body m) opened is
+  open_taken (AddAxiom name classes t) m is = open_added log claims old block (logic.Axiom name classes t) opened is
+  open_taken (ProveLemma name classes t hints) m is = open_added log claims old block (logic.Lemma name classes t) opened is
+  open_taken (Toggle name other disabled) m is = open_added log claims old block (logic.Toggle name other disabled) opened is
+  open_taken (Undo name) m is = open_claim log claims old (before_event name old) block (Undoes name) opened is ((classes_change_nothing_law old).undone name)
+  open_taken Skipped m is = open_same log claims old block opened is
 
-  open_by : (e : Event) (b : Bool) → AreBlocks old (if b then event_claims e else []) block
-      → IsOpenLog (log ++ block) (claims ++ (if b then event_claims e else [])) (without_classes (if b then history_after old e None else old))
-  open_by e true is = open_taken e is
-  open_by e false is = open_same log claims old block opened is
+  open_by : (e : Event) (m : Option Term) (b : Bool) → AreBlocks old (if b then event_claims e m else []) block
+      → IsOpenLog (log ++ block) (claims ++ (if b then event_claims e m else [])) (without_classes (if b then history_after old e m else old))
+  open_by e m true is = open_taken e m is
+  open_by e m false is = open_same log claims old block opened is
 
   open_event : (new : History) (e : Event) (answer : Answer) → AreBlocks old (claims_of e answer) block → new ≡ after_event old e answer
       → IsOpenLog (log ++ block) (claims ++ claims_of e answer) (without_classes new)
   open_event new e answer is same =
-      subst (λ (h : History). IsOpenLog (log ++ block) (claims ++ claims_of e answer) (without_classes h)) (sym same) (open_by e (is_taken answer) is)
+      subst (λ (h : History). IsOpenLog (log ++ block) (claims ++ claims_of e answer) (without_classes h)) (sym same) (open_by e (measure_by e answer) (is_taken answer) is)
 
 -- the log with the block of one form more
 pub log_more : (done : Forms) (reports : List Report) (old new : History) (form : Form) (report : Report) (log block : List ℕ) → Runs [] done reports old

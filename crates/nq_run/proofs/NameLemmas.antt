@@ -47,10 +47,10 @@ none_told o why told none = sym told ∙ ap (option_map answer_of) none
 -- ---- events that are accepted
 
 -- nothing keeps the event from being taken, and its entry stands at the end
-module _ (old : Session) (form : Form) (event : model.Event) (logging : Bool) (entry : Entry) (claim : Claim) (block : List ℕ) (none : untaken (history_of old) form event ≡ None)
+module _ (old : Session) (form : Form) (event : model.Event) (logging : Bool) (entry : Entry) (claim : Claim) (block : List ℕ) (none : untaken (history_of old) event ≡ None)
     (outcome : IsOutcome (history_of old) form event Accepted) (later : history_after (history_of old) event None ≡ history_of old ++ event_at old.bank entry ∷ [])
-    (claims : event_claims event ≡ claim ∷ []) (text : logging ≡ true → IsBlock (history_of old) claim block) where
-  blocks : (text_of : List ℕ) → text_of ≡ block → logging ≡ true → AreBlocks (history_of old) (event_claims event) text_of
+    (claims : event_claims event None ≡ claim ∷ []) (text : logging ≡ true → IsBlock (history_of old) claim block) where
+  blocks : (text_of : List ℕ) → text_of ≡ block → logging ≡ true → AreBlocks (history_of old) (event_claims event None) text_of
   blocks text_of written on =
       subst (λ (cs : List Claim). AreBlocks (history_of old) cs text_of) (sym claims) (subst (IsBlock (history_of old) claim) (sym written) (text on))
 

@@ -1,8 +1,12 @@
 -- The try of a lemma, over a bank that its proof grows.
-use Rattle.std.proofs.Common.{◌≡◌, ℕ, zero, suc, List, [], ap, sym, subst, ◌∙◌, arith}
-use Rattle.std.specs.Prelude.{All, Option, Some}
-use Rattle.nq_logic.specs.Terms.{Name, Term}
+use Rattle.std.proofs.Common.{◌≡◌, ℕ, zero, suc, true, List, [], ◌∷◌, ap, sym, subst, ◌∙◌, arith}
+use Rattle.std.specs.Prelude.{All, Some}
+use Rattle.nq_logic.specs.Terms.{Name, Term, IsTerm}
+use Rattle.nq_logic.specs.Formulas.{holds}
+use Rattle.nq_logic.specs.Derivations.{Derivable}
+use Rattle.nq_logic.specs.Ground.{symbols_of}
 use Rattle.nq_logic.specs.Histories.{History}
+use Rattle.nq_log.proofs.RuleSteps.{only_holds}
 use Rattle.nq_bank.specs.declared.node.Mark.{Mark}
 use Rattle.nq_bank.specs.declared.node.Sym.{Sym}
 use Rattle.nq_bank.specs.declared.node.TermId.{TermId}
@@ -10,12 +14,12 @@ use Rattle.nq_bank.specs.Content.{Content, Grows, IsNamed, Stands, term_at, text
 use Rattle.nq_bank.specs.Marks.{CanRelease, IsMarkOf, released}
 use Rattle.nq_bank.proofs.Growth.{term_at-grown, text_at-grown}
 use Rattle.nq_proof.specs.Laws.{LinesHold}
+use Rattle.nq_proof.specs.Rules.{has_only}
 use Rattle.nq_history.specs.declared.entry.Entry.{Entry}
 use Rattle.nq_history.specs.Events.{events_at, HistoryStands}
 use Rattle.nq_history.proofs.HistoryLemmas.{events_at-grown}
 use Rattle.nq_kernel.specs.declared.rule.Line.{Line}
 use Rattle.nq_kernel.specs.declared.verdict.Proof.TheVariants.{First, Waterfall}
-use Rattle.nq_kernel.specs.declared.verdict.Quick.{Quick}
 use Rattle.nq_kernel.specs.declared.verdict.Verdict.{Verdict}
 use Rattle.nq_kernel.specs.declared.verdict.Verdict.TheVariants.{Proved, Failed, OutOfSteps, NotYet}
 use Rattle.nq_kernel.specs.declared.work.Work.{Work}
@@ -29,7 +33,10 @@ use Rattle.nq_block.specs.Closings.{CanClose, IsFree}
 use Rattle.nq_block.specs.Names.{HasSymbols}
 use Rattle.nq_spelling.specs.SpelledEvents.{IsSpelledFormula}
 use Rattle.nq_run.specs.Outcome.{AreBlocks}
-use Rattle.nq_run.specs.Sessions.{IsFoundBy, IsShownBy, ShownBy, found_claims}
+use Rattle.nq_run.specs.Sessions.{IsFoundBy, IsShownBy, found_claims, found_of, line_in}
+use Rattle.nq_run.specs.declared.proving.Found.{Found}
+use Rattle.nq_run.specs.declared.proving.Found.TheVariants as finding
+use Rattle.nq_run.specs.declared.proving.Found.TheVariants.{Fragment, Moves}
 
 -- ---- work on a bank
 
@@ -57,18 +64,38 @@ goal_in bank later history name goal same spelled = subst (λ (b : Content). Ter
 
 -- ---- what a verdict shows
 
-pub shown_is : (work : Work) (h : History) (t : Term) (verdict : Verdict) (shown : Option (ℕ × Quick)) → ShownBy verdict shown → IsTold work t verdict → IsFirstPass h t verdict → IsShownBy work h t shown
-shown_is work h t (Proved line (First way)) shown is told first = subst (IsShownBy work h t) (sym is) (told, first)
-shown_is work h t (Proved line (Waterfall path)) shown is told first = subst (IsShownBy work h t) (sym is) first
-shown_is work h t (Failed path cause) shown is told first = subst (IsShownBy work h t) (sym is) first
-shown_is work h t OutOfSteps shown is told first = subst (IsShownBy work h t) (sym is) first
-shown_is work h t (NotYet path) shown is told first = subst (IsShownBy work h t) (sym is) first
+pub shown_is : (work : Work) (h : History) (t : Term) (verdict : Verdict) → IsTold work t verdict → IsFirstPass h t verdict → IsShownBy work h t (found_of verdict)
+shown_is work h t (Proved line (First way)) told first = (told, first)
+shown_is work h t (Proved line (Waterfall path)) told first = (told, first)
+shown_is work h t (Failed path cause) told first = first
+shown_is work h t OutOfSteps told first = first
+shown_is work h t (NotYet path) told first = first
+
+-- what a line shows is derivable
+shown_derivable : (work : Work) (history : List Entry) (t : Term) (line : ℕ) → WorkHolds history work → IsTerm (symbols_of (events_at work.bank history)) t
+    → has_only (clause_at work.bank work.log line) (t ∷ []) ≡ true → Derivable (events_at work.bank history) (holds t)
+shown_derivable work history t line lines over only = only_holds (events_at work.bank history) (clause_at work.bank work.log line) (t ∷ []) (lines line) (over, tt) only
+
+pub found_is : (work : Work) (history : List Entry) (t : Term) (found : Found) → WorkHolds history work → IsTerm (symbols_of (events_at work.bank history)) t
+    → IsShownBy work (events_at work.bank history) t found → IsFoundBy (events_at work.bank history) t found
+found_is work history t (Fragment line way) lines over shown = (shown.1, shown_derivable work history t line lines over shown.0)
+found_is work history t (Moves line) lines over shown = (shown.1, shown_derivable work history t line lines over shown.0)
+found_is work history t finding.OutOfSteps lines over shown = shown
+found_is work history t finding.Unknown lines over shown = shown
+
+shown_line : (work : Work) (h : History) (t : Term) (found : Found) (line : ℕ) → line_in found ≡ Some line → IsShownBy work h t found → has_only (clause_at work.bank work.log line) (t ∷ []) ≡ true
+shown_line work h t (Fragment n way) line is shown = let same : n ≡ line = cc in subst (λ (k : ℕ). has_only (clause_at work.bank work.log k) (t ∷ []) ≡ true) same shown.0
+shown_line work h t (Moves n) line is shown = let same : n ≡ line = cc in subst (λ (k : ℕ). has_only (clause_at work.bank work.log k) (t ∷ []) ≡ true) same shown.0
+shown_line work h t finding.OutOfSteps line is shown = absurd cc
+shown_line work h t finding.Unknown line is shown = absurd cc
 
 -- a line that shows the lemma closes its block
-pub can_show : (work : Work) (history : List Entry) (name : Sym) (goal : TermId) (line : ℕ) (way : Quick) → IsSpelledFormula (events_at work.bank history) (text_at work.bank name) (term_at work.bank goal)
-    → IsFree (events_at work.bank history) (text_at work.bank name) → IsShownBy work (events_at work.bank history) (term_at work.bank goal) (Some (line, way))
+pub can_show : (work : Work) (history : List Entry) (name : Sym) (goal : TermId) (found : Found) (line : ℕ) → line_in found ≡ Some line
+    → IsSpelledFormula (events_at work.bank history) (text_at work.bank name) (term_at work.bank goal)
+    → IsFree (events_at work.bank history) (text_at work.bank name) → IsShownBy work (events_at work.bank history) (term_at work.bank goal) found
     → CanClose work.bank history work.log (closing.Lemma name goal line)
-can_show work history name goal line way spelled free shown = record { free = free; claimable = spelled.claimable; only = shown.0 }
+can_show work history name goal found line is spelled free shown =
+    record { free = free; claimable = spelled.claimable; only = shown_line work (events_at work.bank history) (term_at work.bank goal) found line is shown }
 
 -- ---- a bank that has grown
 
@@ -102,24 +129,25 @@ module _ (bank begun later : Content) (history : List Entry) (name : Sym) (goal 
   free_kept free = subst (λ (h : History). IsFree h (text_at later name)) (sym events_kept) (subst (IsFree (events_at bank history)) (sym name_kept) free)
 
   -- what the verdict says of the bank as it was when the work began
-  pub shown_kept : (work : Work) (verdict : Verdict) (shown : Option (ℕ × Quick)) → ShownBy verdict shown → IsTold work (term_at begun goal) verdict
-      → IsFirstPass (events_at begun history) (term_at begun goal) verdict → IsShownBy work (events_at later history) (term_at later goal) shown
-  shown_kept work verdict shown is told first =
-      let own : IsShownBy work (events_at begun history) (term_at begun goal) shown = shown_is work (events_at begun history) (term_at begun goal) verdict shown is told first in
+  pub shown_kept : (work : Work) (verdict : Verdict) (result : Found) → result ≡ found_of verdict → IsTold work (term_at begun goal) verdict
+      → IsFirstPass (events_at begun history) (term_at begun goal) verdict → IsShownBy work (events_at later history) (term_at later goal) result
+  shown_kept work verdict result is told first =
+      let own : IsShownBy work (events_at begun history) (term_at begun goal) (found_of verdict) = shown_is work (events_at begun history) (term_at begun goal) verdict told first in
       let events : events_at begun history ≡ events_at later history = ap (λ (b : Content). events_at b history) same ∙ sym events_kept in
-      subst (λ (h : History). IsShownBy work h (term_at later goal) shown) events
-      (subst (λ (t : Term). IsShownBy work (events_at begun history) t shown) (sym goal_begun) own)
+      subst (IsShownBy work (events_at later history) (term_at later goal)) (sym is)
+      (subst (λ (h : History). IsShownBy work h (term_at later goal) (found_of verdict)) events
+      (subst (λ (t : Term). IsShownBy work (events_at begun history) t (found_of verdict)) (sym goal_begun) own))
 
-  pub found_before : (way : Option Quick) → IsFoundBy (events_at later history) (term_at later goal) way → IsFoundBy (events_at bank history) (term_at bank goal) way
-  found_before way found =
-      subst (λ (h : History). IsFoundBy h (term_at bank goal) way) events_kept (subst (λ (t : Term). IsFoundBy (events_at later history) t way) goal_kept found)
+  pub found_before : (result : Found) → IsFoundBy (events_at later history) (term_at later goal) result → IsFoundBy (events_at bank history) (term_at bank goal) result
+  found_before result is =
+      subst (λ (h : History). IsFoundBy h (term_at bank goal) result) events_kept (subst (λ (t : Term). IsFoundBy (events_at later history) t result) goal_kept is)
 
-  pub written_before : (way : Option Quick) (block : List ℕ) → AreBlocks (events_at later history) (found_claims (text_at later name) (term_at later goal) way) block
-      → AreBlocks (events_at bank history) (found_claims (text_at bank name) (term_at bank goal) way) block
-  written_before way block written =
-      subst (λ (h : History). AreBlocks h (found_claims (text_at bank name) (term_at bank goal) way) block) events_kept
-      (subst (λ (n : Name). AreBlocks (events_at later history) (found_claims n (term_at bank goal) way) block) name_kept
-      (subst (λ (t : Term). AreBlocks (events_at later history) (found_claims (text_at later name) t way) block) goal_kept written))
+  pub written_before : (result : Found) (block : List ℕ) → AreBlocks (events_at later history) (found_claims (text_at later name) (term_at later goal) result) block
+      → AreBlocks (events_at bank history) (found_claims (text_at bank name) (term_at bank goal) result) block
+  written_before result block written =
+      subst (λ (h : History). AreBlocks h (found_claims (text_at bank name) (term_at bank goal) result) block) events_kept
+      (subst (λ (n : Name). AreBlocks (events_at later history) (found_claims n (term_at bank goal) result) block) name_kept
+      (subst (λ (t : Term). AreBlocks (events_at later history) (found_claims (text_at later name) t result) block) goal_kept written))
 
   pub can_give_back : (mark : Mark) → IsMarkOf bank mark → CanRelease later mark
   can_give_back mark is = is.can later grew

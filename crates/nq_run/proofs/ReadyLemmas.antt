@@ -11,16 +11,10 @@ use Rattle.nq_logic.specs.Admissible.{IsMeasured}
 use Rattle.nq_logic.proofs.Tests.{names_distinct_law, variables_told_law}
 use Rattle.nq_proof.proofs.Tests.{and_right}
 use Rattle.nq_log.specs.Sizes.{is_small}
-use Rattle.nq_kernel.specs.declared.verdict.Quick.{Quick}
-use Rattle.nq_kernel.specs.declared.verdict.Quick.TheVariants.{Taut, Eval, Inst}
-use Rattle.nq_kernel.specs.Proving.{IsFirstFragment}
-use Rattle.nq_kernel.specs.Ready.{IsReady, IsReadyEvent, body_depth}
-use Rattle.nq_kernel.proofs.ReadyLemmas.{ready_sound}
+use Rattle.nq_kernel.specs.Ready.{IsReadyEvent, body_depth}
 use Rattle.nq_block.specs.Closings.{CanDefine, IsFree}
 use Rattle.nq_events.specs.AllowedEvents.{plain_definition}
 use Rattle.nq_spelling.specs.SpelledEvents.{IsSpelledDefinition, IsSpelledFormula}
-use Rattle.nq_answers.proofs.Instances.{instance_derivable}
-use Rattle.nq_answers.proofs.SmallTautologies.{tautology_derivable}
 
 module _ (h : History) (name : Name) (free : IsFree h name) where
   pub declared_ready : (n : ℕ) → IsReadyEvent h (logic.Declaration name n)
@@ -32,17 +26,12 @@ module _ (h : History) (name : Name) (free : IsFree h name) where
   pub axiom_ready : (classes : List RuleClass) (t : Term) → IsSpelledFormula h name t → IsReadyEvent h (logic.Axiom name classes t)
   axiom_ready classes t spelled = record { unused = free.unused; holds = spelled.claimable.over.over; spelled = spelled.claimable.over }
 
-  -- a lemma that a fragment holds is derivable
-  pub lemma_ready : (classes : List RuleClass) (t : Term) (way : Quick) → IsReady h → IsSpelledFormula h name t → IsFirstFragment h t way → IsReadyEvent h (logic.Lemma name classes t)
-  lemma_ready classes t way ready spelled first = record { unused = free.unused; holds = derivable way first; spelled = spelled.claimable.over }
-    where
-      derivable : (way : Quick) → IsFirstFragment h t way → Derivable h (holds t)
-      derivable Taut small = tautology_derivable h t spelled.claimable.over.over small
-      derivable Eval never = absurd never
-      derivable Inst first = instance_derivable h t (ready_sound h ready) spelled.claimable.over.over first.instance
+  -- a lemma that is derivable
+  pub lemma_ready : (classes : List RuleClass) (t : Term) → IsSpelledFormula h name t → Derivable h (holds t) → IsReadyEvent h (logic.Lemma name classes t)
+  lemma_ready classes t spelled shown = record { unused = free.unused; holds = shown; spelled = spelled.claimable.over }
 
 -- a term that may be claimed is not too deep
-small_depth : (t : Term) → is_small t ≡ true → depth_of t ≤ body_depth
+pub small_depth : (t : Term) → is_small t ≡ true → depth_of t ≤ body_depth
 small_depth t small = leb-true (depth_of t) body_depth (and_right (nat_le (size_of t) 100000) (nat_le (depth_of t) body_depth) small)
 
 pub defined_ready : (h : History) (name : Name) (formals : List Name) (body : Term) → CanDefine h name formals body → IsSpelledDefinition h name formals body

@@ -1,9 +1,13 @@
 -- A form that the program answered, as a step of a run.
-use Rattle.std.proofs.Common.{◌≡◌, ◌^◌, ℕ, Bool, true, false, List, [], ◌∷◌, ◌++◌, length, refl, ap, ap₂, sym, subst, ◌∙◌, inl, inr, arith}
-use Rattle.std.specs.Prelude.{IfOk, Result, Ok, Err, Option, None, Some, Vec, if◌then◌else◌, nat_eq, nat_le, nat_lt, map}
+use Rattle.std.proofs.Common.{◌≡◌, ◌^◌, ℕ, Bool, true, false, List, [], ◌∷◌, ◌++◌, length, refl, ap, ap₂, sym, subst, ◌∙◌}
+use Rattle.std.specs.Prelude.{IfOk, Result, Ok, Err, Option, None, Some, Vec, if◌then◌else◌, map}
+use Rattle.std.proofs.lemmas.Bool.{lt-ltb}
+use Rattle.std.specs.Option.{option_map}
 use Rattle.std.specs.declared.alloc.AllocError.{AllocError}
 use Rattle.std.specs.declared.alloc.Global.{Global}
 use Rattle.nq_logic.specs.Terms.{Name, Term}
+use Rattle.nq_logic.specs.Formulas.{holds}
+use Rattle.nq_logic.specs.Derivations.{Derivable}
 use Rattle.nq_logic.specs.Histories.{History, RuleClass}
 use Rattle.nq_logic.specs.Histories as logic
 use Rattle.nq_logic.specs.Names.{is_in_use}
@@ -15,17 +19,23 @@ use Rattle.nq_history.specs.declared.entry.Class.{Class}
 use Rattle.nq_history.specs.Events.{class_of, event_at as entry_event, events_at}
 use Rattle.nq_kernel.specs.declared.verdict.Quick.{Quick}
 use Rattle.nq_kernel.specs.declared.verdict.Quick.TheVariants.{Taut, Eval, Inst}
+use Rattle.nq_kernel.specs.Proving.{IsFirstFragment}
+use Rattle.nq_fragments.specs.Fragments.{IsInNoFragment}
 use Rattle.nq_log.specs.States.{Adds, Claim, Grounded}
 use Rattle.nq_block.specs.Blocks.{IsBlock}
 use Rattle.nq_block.specs.Closings.{IsFree}
-use Rattle.nq_comment.specs.Reports.{Answer, Accepted, Proved, Refused}
+use Rattle.nq_comment.specs.Reports.{Answer, Accepted, Proved, Refused, Skipped}
 use Rattle.nq_comment.specs.ReportViews.{answer_of, words_of}
 use Rattle.nq_comment.specs.declared.answer.FormAnswer.{FormAnswer}
 use Rattle.nq_comment.specs.declared.answer.FormAnswer.TheVariants as answers
 use Rattle.nq_events.specs.Events as model
 use Rattle.nq_events.specs.Effects.{history_after}
 use Rattle.nq_events.specs.Reading.{event_of, event_refusal, reading, unless_refused}
-use Rattle.nq_events.specs.Refusals.{Refusal, NameInUse, TooManyEvents}
+use Rattle.nq_events.specs.Refusals.{Refusal, NameInUse}
+use Rattle.nq_events.specs.TermRefusals.{first}
+use Rattle.nq_events.specs.OwnRefusals.{formula_refusal, own_refusal, refused_if, room_refusal, shape_refusal}
+use Rattle.nq_events.specs.AllowedEvents.{IsStatable}
+use Rattle.nq_events.proofs.AllowedEvents.{events_are_allowed}
 use Rattle.nq_event.specs.EventsAt.{EventStands, event_at}
 use Rattle.nq_event.specs.Parsed.{IsEventOf, IsFaultOf}
 use Rattle.nq_event.specs.declared.event.Event.{Event}
@@ -34,12 +44,15 @@ use Rattle.nq_event.specs.declared.fault.EventFault.TheVariants as fault
 use Rattle.nq_spelling.specs.Spelled.{IsSpelled}
 use Rattle.nq_spelling.specs.SpelledEvents.{EventsAreSpelled, IsSpelledEvent, IsSpelledFormula}
 use Rattle.nq_answers.specs.Claims.{claims_at, claims_of, event_claims}
-use Rattle.nq_answers.specs.Steps.{AnswersUnless, IsOutcome, after_event, classes_answer, first_answer, formula_answer, is_taken, not_yet, refusal_answer, refused, untaken}
-use Rattle.nq_answers.proofs.Deriving.{TakesNothing, untaken_nothing}
+use Rattle.nq_answers.specs.Steps.{AnswersUnless, IsOutcome, IsTried, by_tautology, by_evaluation, by_instance, after_event, first_answer, is_taken, refusal_answer, refused, untaken}
+use Rattle.nq_answers.proofs.Deriving.{TakesNothing, no_refusal, refused_nothing}
 use Rattle.nq_run.specs.Answers.{IsAnswerTo, quick_of}
 use Rattle.nq_run.specs.HistoryView.{history_of, SessionStands}
 use Rattle.nq_run.specs.Outcome.{AreBlocks}
-use Rattle.nq_run.specs.Sessions.{IsAdded, IsFoundBy, IsUntaken, Takes, TakesEvent, TriesLemma, lemma_claims}
+use Rattle.nq_run.specs.declared.proving.Found.{Found}
+use Rattle.nq_run.specs.declared.proving.Found.TheVariants as finding
+use Rattle.nq_run.specs.declared.proving.Found.TheVariants.{Fragment, Moves}
+use Rattle.nq_run.specs.Sessions.{IsAdded, IsFoundBy, found_claims, way_in, IsUntaken, Takes, TakesEvent, TriesLemma, lemma_claims}
 use Rattle.nq_run.specs.declared.session.Session.{Session}
 use Rattle.nq_run.specs.declared.session.Taken.{Taken}
 use Rattle.nq_run.proofs.SessionLemmas.{same_history}
@@ -98,21 +111,21 @@ taken_not (Some a) answer e nothing = let same : answer ≡ a = cc in ap is_take
 
 module _ (old : Session) (form : Form) (event : model.Event) (logging : Bool) (answer : Answer) (r : Taken) (is : IsUntaken old answer r) where
   -- the session as it was
-  pub untaken_as : is_taken answer ≡ false → AnswersUnless (untaken (history_of old) form event) (history_of old) form event answer → TakesEvent (history_of old) form event logging r
+  pub untaken_as : is_taken answer ≡ false → AnswersUnless (untaken (history_of old) event) (history_of old) form event answer → TakesEvent (history_of old) form event logging r
   untaken_as nothing answered =
       let h : History = history_of old in
       let told : is_taken (answer_of r.answer) ≡ false = ap is_taken is.answer_is ∙ nothing in
       record {
-        answered = subst (AnswersUnless (untaken h form event) h form event) (sym is.answer_is) answered;
+        answered = subst (AnswersUnless (untaken h event) h form event) (sym is.answer_is) answered;
         after_is = is.same ∙ sym (kept_after h event (answer_of r.answer) told);
         stands = is.stands;
         written = λ on. no_block h (claims_of event (answer_of r.answer)) r.block is.block_is (no_claims event (answer_of r.answer) told);
       }
 
   -- an event that something keeps from being taken
-  pub hindered : Some answer ≡ untaken (history_of old) form event → TakesEvent (history_of old) form event logging r
+  pub hindered : Some answer ≡ untaken (history_of old) event → TakesEvent (history_of old) form event logging r
   hindered why =
-      untaken_as (taken_not (untaken (history_of old) form event) answer why (untaken_nothing (history_of old) form event))
+      untaken_as (taken_not (untaken (history_of old) event) answer why (refused_nothing (own_refusal (history_of old) event)))
       (subst (λ (o : Option Answer). AnswersUnless o (history_of old) form event answer) why refl)
 
 -- ---- a form by its event
@@ -140,7 +153,7 @@ module _ (old : Session) (bank : Content) (form : Form) (event : Event) (logging
       let here : TakesEvent h form (event_at bank event) logging r = subst (λ (k : History). TakesEvent k form (event_at bank event) logging r) (same_history old bank stands grows) taken in
       let own : TakesEvent h form (event_of h form) logging r = subst (λ (e : model.Event). TakesEvent h form e logging r) is.is here in
       record {
-        answered = subst (λ (o : Option Refusal). AnswersUnless (first_answer (refused o) (untaken h form (event_of h form))) h form (event_of h form) (answer_of r.answer)) (sym is.lawful) own.answered;
+        answered = subst (λ (o : Option Refusal). AnswersUnless (first_answer (refused o) (untaken h (event_of h form))) h form (event_of h form) (answer_of r.answer)) (sym is.lawful) own.answered;
         after_is = own.after_is;
         stands = own.stands;
         written = own.written;
@@ -156,7 +169,7 @@ refused_form old grown form logging (fault.Refused code words) answer r same tol
     let says : answer_of r.answer ≡ refusal_answer own.refusal = kept.answer_is ∙ is ∙ own.told in
     let nothing : is_taken (answer_of r.answer) ≡ false = ap is_taken says in
     record {
-      answered = subst (λ (o : Option Refusal). AnswersUnless (first_answer (refused o) (untaken h form (event_of h form))) h form (event_of h form) (answer_of r.answer)) (sym own.met) says;
+      answered = subst (λ (o : Option Refusal). AnswersUnless (first_answer (refused o) (untaken h (event_of h form))) h form (event_of h form) (answer_of r.answer)) (sym own.met) says;
       after_is = kept.same ∙ same ∙ sym (kept_after h (event_of h form) (answer_of r.answer) nothing);
       stands = kept.stands;
       written = λ on. no_block h (claims_at h form (answer_of r.answer)) r.block kept.block_is (no_claims (event_of h form) (answer_of r.answer) nothing);
@@ -165,71 +178,72 @@ refused_form old grown form logging (fault.Refused code words) answer r same tol
 -- ---- an event that is accepted
 
 pub accepted_as : (old : Session) (form : Form) (event : model.Event) (entry : Entry) (logging : Bool) (r : Taken) → IsAdded old entry r.session → r.answer ≡ answers.Accepted
-    → untaken (history_of old) form event ≡ None → IsOutcome (history_of old) form event Accepted
+    → untaken (history_of old) event ≡ None → IsOutcome (history_of old) form event Accepted
     → history_after (history_of old) event None ≡ history_of old ++ entry_event old.bank entry ∷ []
-    → (logging ≡ true → AreBlocks (history_of old) (event_claims event) r.block) → TakesEvent (history_of old) form event logging r
+    → (logging ≡ true → AreBlocks (history_of old) (event_claims event None) r.block) → TakesEvent (history_of old) form event logging r
 accepted_as old form event entry logging r added accepted free outcome later block =
     let h : History = history_of old in
     let said : answer_of r.answer ≡ Accepted = ap answer_of accepted in
     record {
-      answered = subst (AnswersUnless (untaken h form event) h form event) (sym said) (subst (λ (o : Option Answer). AnswersUnless o h form event Accepted) (sym free) outcome);
+      answered = subst (AnswersUnless (untaken h event) h form event) (sym said) (subst (λ (o : Option Answer). AnswersUnless o h form event Accepted) (sym free) outcome);
       after_is = added.after ∙ sym later ∙ sym (ap (after_event h event) said);
       stands = added.stands;
       written = λ on. subst (λ (a : Answer). AreBlocks h (claims_of event a) r.block) (sym said) (block on);
     }
 
+boot_lawful : (h : History) → own_refusal h model.BootStrap ≡ None
+unfolding own_refusal
+boot_lawful h = refl
+
+boot_answered : (h : History) (form : Form) → AnswersUnless (untaken h model.BootStrap) h form model.BootStrap Accepted
+boot_answered h form = subst (λ (o : Option Refusal). AnswersUnless (refused o) h form model.BootStrap Accepted) (sym (boot_lawful h)) refl
+
+passed_lawful : (h : History) → own_refusal h model.Skipped ≡ None
+unfolding own_refusal
+passed_lawful h = refl
+
+-- a form that is passed over
+pub passed_answered : (h : History) (form : Form) → AnswersUnless (untaken h model.Skipped) h form model.Skipped Skipped
+passed_answered h form = subst (λ (o : Option Refusal). AnswersUnless (refused o) h form model.Skipped Skipped) (sym (passed_lawful h)) refl
+
 -- the ground history again
 pub grounded : (old new : Session) (form : Form) (logging : Bool) (text : List ℕ) → history_of new ≡ [] → SessionStands new
     → (logging ≡ true → IsBlock (history_of old) Grounded text) → TakesEvent (history_of old) form model.BootStrap logging (record { session = new; answer = answers.Accepted; block = text })
-grounded old new form logging text empty stands block = record { answered = refl; after_is = empty; stands = stands; written = block }
+grounded old new form logging text empty stands block = record { answered = boot_answered (history_of old) form; after_is = empty; stands = stands; written = block }
 
 -- ---- axioms and lemmas
 
--- nothing keeps a formula from being taken or tried
-pub record IsUnhindered (h : History) (name : Name) (classes : List RuleClass) : Type 0 where
-  pub unused : is_in_use name h ≡ false
-  pub plain : classes ≡ []
-  pub room : nat_lt (length h) 10000 ≡ true
+module _ (h : History) (name : Name) (classes : List RuleClass) (t : Term) where
+  pub axiom_is : own_refusal h (model.AddAxiom name classes t) ≡ formula_refusal h name classes t
+  unfolding own_refusal
+  axiom_is = refl
 
-below : (a b : ℕ) → nat_le b a ≡ false → nat_lt a b ≡ true
-below a b e = grind arith
+  pub lemma_is : (hints : model.Hints) → own_refusal h (model.ProveLemma name classes t hints) ≡ formula_refusal h name classes t
+  unfolding own_refusal
+  lemma_is hints = refl
 
-pub unhindered : (h : History) (form : Form) (name : Name) (classes : List RuleClass) → formula_answer h form name classes ≡ None → IsUnhindered h name classes
-unhindered h form name classes e = go (is_in_use name h) refl classes refl (nat_le 10000 (length h)) refl e
-  where
-    go : (used : Bool) → is_in_use name h ≡ used → (c : List RuleClass) → classes ≡ c → (full : Bool) → nat_le 10000 (length h) ≡ full
-        → first_answer (refused (if used then Some (NameInUse name) else None)) (first_answer (classes_answer form c) (refused (if full then Some TooManyEvents else None))) ≡ None → IsUnhindered h name classes
-    go true u c k full f e = absurd cc
-    go false u (class ∷ c) k full f e = absurd cc
-    go false u [] k true f e = absurd cc
-    go false u [] k false f e = record { unused = u; plain = k; room = below (length h) 10000 f }
+  -- the refusal of a formula, by what its name and its classes are found to be
+  pub formula_by : (used : Bool) (unfit : Option Refusal) → is_in_use name h ≡ used → shape_refusal classes t ≡ unfit
+      → refused (formula_refusal h name classes t) ≡ refused (first (refused_if used (NameInUse name)) (first unfit (room_refusal h)))
+  formula_by used unfit u s = ap₂ (λ (b : Bool) (o : Option Refusal). refused (first (refused_if b (NameInUse name)) (first o (room_refusal h)))) u s
 
--- a formula with rule classes
-pub classed : (h : History) (form : Form) (name : Name) (classes : List Class) → is_in_use name h ≡ false → nat_eq (length classes) 0 ≡ false → Some (not_yet form) ≡ formula_answer h form name (map class_of classes)
-classed h form name [] unused e = absurd cc
-classed h form name (class ∷ classes) unused e = go (is_in_use name h) unused
-  where
-    go : (used : Bool) → used ≡ false → Some (not_yet form) ≡ first_answer (refused (if used then Some (NameInUse name) else None)) (Some (not_yet form))
-    go true u = absurd cc
-    go false u = refl
-
--- so its name is free
-pub free_name : (h : History) (form : Form) (name : Name) (classes : List RuleClass) (t : Term) → formula_answer h form name classes ≡ None → IsSpelledFormula h name t → IsFree h name
-free_name h form name classes t e spelled = let is = unhindered h form name classes e in record { symbol = spelled.symbol; unused = is.unused; room = is.room }
+  -- the name of a formula that isn't refused is free
+  pub free_name : refused (formula_refusal h name classes t) ≡ None → IsSpelledFormula h name t → IsFree h name
+  free_name none spelled =
+      let statable : IsStatable h name classes t = events_are_allowed h (model.AddAxiom name classes t) (axiom_is ∙ no_refusal (formula_refusal h name classes t) none) in
+      record { symbol = spelled.symbol; unused = statable.addable.unused; room = lt-ltb (length h) 10000 statable.addable.room }
 
 -- an axiom that was added
-pub axiom_taken : (old : Session) (form : Form) (entry : Entry) (name : Name) (classes : List RuleClass) (t : Term) (logging : Bool) (r : Taken) → formula_answer (history_of old) form name classes ≡ None
-    → entry_event old.bank entry ≡ logic.Axiom name [] t → IsAdded old entry r.session → r.answer ≡ answers.Accepted
+pub axiom_taken : (old : Session) (form : Form) (entry : Entry) (name : Name) (classes : List RuleClass) (t : Term) (logging : Bool) (r : Taken) → refused (formula_refusal (history_of old) name classes t) ≡ None
+    → entry_event old.bank entry ≡ logic.Axiom name classes t → IsAdded old entry r.session → r.answer ≡ answers.Accepted
     → (logging ≡ true → IsBlock (history_of old) (Adds (logic.Axiom name [] t)) r.block) → TakesEvent (history_of old) form (model.AddAxiom name classes t) logging r
 axiom_taken old form entry name classes t logging r none is added accepted block =
     let h : History = history_of old in
-    let plain : classes ≡ [] = (unhindered h form name classes none).plain in
-    subst (λ (c : List RuleClass). TakesEvent h form (model.AddAxiom name c t) logging r) (sym plain)
-    (accepted_as old form (model.AddAxiom name [] t) entry logging r added accepted (ap (formula_answer h form name) (sym plain) ∙ none) refl (ap (λ (e : logic.Event). h ++ e ∷ []) (sym is)) block)
+    accepted_as old form (model.AddAxiom name classes t) entry logging r added accepted (ap refused (axiom_is h name classes t) ∙ none) refl (ap (λ (e : logic.Event). h ++ e ∷ []) (sym is)) block
 
 -- the same of what is answered to it
 pub axiom_taken_on : (old : Session) (form : Form) (entry : Entry) (name : Name) (classes : List RuleClass) (t : Term) (logging : Bool) (block : List ℕ) (o : Result Taken AllocError)
-    → formula_answer (history_of old) form name classes ≡ None → entry_event old.bank entry ≡ logic.Axiom name [] t
+    → refused (formula_refusal (history_of old) name classes t) ≡ None → entry_event old.bank entry ≡ logic.Axiom name classes t
     → IfOk o (λ r. IsAdded old entry r.session) → IfOk o (λ r. r.answer ≡ answers.Accepted) → IfOk o (λ r. r.block ≡ block)
     → (logging ≡ true → IsBlock (history_of old) (Adds (logic.Axiom name [] t)) block) → IfOk o (TakesEvent (history_of old) form (model.AddAxiom name classes t) logging)
 axiom_taken_on old form entry name classes t logging block (Err why) none is added accepted same written = tt
@@ -237,48 +251,88 @@ axiom_taken_on old form entry name classes t logging block (Ok r) none is added 
     axiom_taken old form entry name classes t logging r none is added accepted (λ on. subst (IsBlock (history_of old) (Adds (logic.Axiom name [] t))) (sym same) (written on))
 
 -- a lemma that was tried
-pub tried_lemma : (h : History) (form : Form) (name : Name) (classes : List RuleClass) (t : Term) (hints : model.Hints) (logging : Bool) (r : Taken) → formula_answer h form name classes ≡ None
-    → TriesLemma h form name t logging r → TakesEvent h form (model.ProveLemma name classes t hints) logging r
+pub tried_lemma : (h : History) (form : Form) (name : Name) (classes : List RuleClass) (t : Term) (hints : model.Hints) (logging : Bool) (r : Taken) → refused (formula_refusal h name classes t) ≡ None
+    → TriesLemma h form name classes t hints logging r → TakesEvent h form (model.ProveLemma name classes t hints) logging r
 tried_lemma h form name classes t hints logging r none tries =
-    let plain : classes ≡ [] = (unhindered h form name classes none).plain in
-    let event : List RuleClass → model.Event = λ c. model.ProveLemma name c t hints in
-    let here : TakesEvent h form (event []) logging r = record {
-      answered = subst (λ (o : Option Answer). AnswersUnless o h form (event []) (answer_of r.answer)) (sym (ap (formula_answer h form name) (sym plain) ∙ none)) tries.tried;
+    let event : model.Event = model.ProveLemma name classes t hints in
+    record {
+      answered = subst (λ (o : Option Answer). AnswersUnless o h form event (answer_of r.answer)) (sym (ap refused (lemma_is h name classes t hints) ∙ none)) tries.tried;
       after_is = tries.after_is;
       stands = tries.stands;
       written = tries.written;
-    } in
-    subst (λ (c : List RuleClass). TakesEvent h form (event c) logging r) (sym plain) here
+    }
 
 -- a lemma that was proved and added
-pub lemma_proved : (old : Session) (form : Form) (entry : Entry) (name : Name) (t : Term) (way : Quick) (logging : Bool) (r : Taken) → IsFoundBy (history_of old) t (Some way)
-    → entry_event old.bank entry ≡ logic.Lemma name [] t → IsAdded old entry r.session → answer_of r.answer ≡ Proved (quick_of way)
-    → (logging ≡ true → IsBlock (history_of old) (Adds (logic.Lemma name [] t)) r.block) → TriesLemma (history_of old) form name t logging r
-lemma_proved old form entry name t Eval logging r found is added says block = absurd found
-lemma_proved old form entry name t Taut logging r found is added says block = record {
-  tried = inl (found, says);
-  after_is = added.after ∙ ap (λ (e : logic.Event). history_of old ++ e ∷ []) is ∙ sym (ap (λ (a : Answer). if is_taken a then history_of old ++ logic.Lemma name [] t ∷ [] else history_of old) says);
-  stands = added.stands;
-  written = λ on. subst (λ (a : Answer). AreBlocks (history_of old) (lemma_claims name t a) r.block) (sym says) (block on);
-}
-lemma_proved old form entry name t Inst logging r found is added says block = record {
-  tried = inr (inl (found, says));
-  after_is = added.after ∙ ap (λ (e : logic.Event). history_of old ++ e ∷ []) is ∙ sym (ap (λ (a : Answer). if is_taken a then history_of old ++ logic.Lemma name [] t ∷ [] else history_of old) says);
-  stands = added.stands;
-  written = λ on. subst (λ (a : Answer). AreBlocks (history_of old) (lemma_claims name t a) r.block) (sym says) (block on);
-}
-
--- a lemma that is in no fragment
-pub lemma_unproved : (old : Session) (form : Form) (name : Name) (t : Term) (logging : Bool) (r : Taken) → IsFoundBy (history_of old) t None → IsUntaken old (not_yet form) r
-    → TriesLemma (history_of old) form name t logging r
-lemma_unproved old form name t logging r found kept =
-    let nothing : is_taken (answer_of r.answer) ≡ false = ap is_taken kept.answer_is in
+pub lemma_proved : (h : History) (form : Form) (name : Name) (classes : List RuleClass) (t : Term) (hints : model.Hints) (answer : Answer) (logging : Bool) (r : Taken) → is_taken answer ≡ true → IsTried h form hints t answer
+    → history_of r.session ≡ h ++ logic.Lemma name classes t ∷ [] → SessionStands r.session → answer_of r.answer ≡ answer
+    → (logging ≡ true → IsBlock h (Adds (logic.Lemma name [] t)) r.block) → TriesLemma h form name classes t hints logging r
+lemma_proved h form name classes t hints answer logging r takes tried later stands says block =
+    let told : is_taken (answer_of r.answer) ≡ true = ap is_taken says ∙ takes in
     record {
-      tried = inr (inr (found, kept.answer_is));
+      tried = subst (IsTried h form hints t) (sym says) tried;
+      after_is = later ∙ sym (ap (λ (b : Bool). if b then h ++ logic.Lemma name classes t ∷ [] else h) told);
+      stands = stands;
+      written = λ on. subst (λ (b : Bool). AreBlocks h (if b then Adds (logic.Lemma name [] t) ∷ [] else []) r.block) (sym told) (block on);
+    }
+
+-- the way in which a fragment proves a lemma
+pub fragment_tried : (h : History) (form : Form) (hints : model.Hints) (t : Term) (way : Quick) → IsFirstFragment h t way → Derivable h (holds t) → IsTried h form hints t (Proved (quick_of way))
+fragment_tried h form hints t Taut first shown = by_tautology first refl
+fragment_tried h form hints t Eval first shown = by_evaluation (record { first = first; shown = shown; answer_is = refl })
+fragment_tried h form hints t Inst first shown = by_instance first refl
+
+-- a lemma that is not taken
+pub lemma_left : (old : Session) (form : Form) (name : Name) (classes : List RuleClass) (t : Term) (hints : model.Hints) (answer : Answer) (logging : Bool) (r : Taken) → is_taken answer ≡ false
+    → IsTried (history_of old) form hints t answer → IsUntaken old answer r → TriesLemma (history_of old) form name classes t hints logging r
+lemma_left old form name classes t hints answer logging r takes tried kept =
+    let nothing : is_taken (answer_of r.answer) ≡ false = ap is_taken kept.answer_is ∙ takes in
+    record {
+      tried = subst (IsTried (history_of old) form hints t) (sym kept.answer_is) tried;
       after_is = kept.same ∙ sym (kept_by (is_taken (answer_of r.answer)) (history_of old) _ nothing);
       stands = kept.stands;
       written = λ on. no_block (history_of old) (lemma_claims name t (answer_of r.answer)) r.block kept.block_is (none_by (is_taken (answer_of r.answer)) _ nothing);
     }
+
+-- what is found by a fragment
+pub way_found : (h : History) (t : Term) (result : Found) (way : Quick) → way_in result ≡ Some way → IsFoundBy h t result → IsFirstFragment h t way × Derivable h (holds t)
+way_found h t (Fragment line own) way is found = let same : own ≡ way = cc in subst (λ (w : Quick). IsFirstFragment h t w × Derivable h (holds t)) same found
+way_found h t (Moves line) way is found = absurd cc
+way_found h t finding.OutOfSteps way is found = absurd cc
+way_found h t finding.Unknown way is found = absurd cc
+
+pub way_block : (h : History) (name : Name) (t : Term) (result : Found) (way : Quick) (block : List ℕ) → way_in result ≡ Some way → AreBlocks h (found_claims name t result) block
+    → IsBlock h (Adds (logic.Lemma name [] t)) block
+way_block h name t (Fragment line own) way block is blocks = blocks
+way_block h name t (Moves line) way block is blocks = absurd cc
+way_block h name t finding.OutOfSteps way block is blocks = absurd cc
+way_block h name t finding.Unknown way block is blocks = absurd cc
+
+-- what is not found by a fragment is in none
+pub no_way : (h : History) (t : Term) (result : Found) → way_in result ≡ None → IsFoundBy h t result → IsInNoFragment h t
+no_way h t (Fragment line own) is found = absurd cc
+no_way h t (Moves line) is found = found.0
+no_way h t finding.OutOfSteps is found = found
+no_way h t finding.Unknown is found = found
+
+-- what is answered to a lemma that was proved and added
+pub proved_on : (o : Result Taken AllocError) (h : History) (form : Form) (name : Name) (classes : List RuleClass) (t : Term) (hints : model.Hints) (told : FormAnswer) (answer : Answer) (logging : Bool) (block : List ℕ)
+    → is_taken answer ≡ true → IsTried h form hints t answer → IfOk o (λ r. history_of r.session ≡ h ++ logic.Lemma name classes t ∷ []) → IfOk o (λ r. SessionStands r.session)
+    → IfOk o (λ r. r.answer ≡ told) → answer_of told ≡ answer → IfOk o (λ r. r.block ≡ block) → (logging ≡ true → IsBlock h (Adds (logic.Lemma name [] t)) block)
+    → IfOk o (TriesLemma h form name classes t hints logging)
+proved_on (Err why) h form name classes t hints told answer logging block takes tried later stands says is written text = tt
+proved_on (Ok r) h form name classes t hints told answer logging block takes tried later stands says is written text =
+    lemma_proved h form name classes t hints answer logging r takes tried later stands (ap answer_of says ∙ is) (λ on. subst (IsBlock h (Adds (logic.Lemma name [] t))) (sym written) (text on))
+
+-- what a formula's answer tells, where its classes are these
+pub told_none : (h : History) (name : Name) (xs ys : List Class) (t : Term) (o : Option FormAnswer) → xs ≡ ys → option_map answer_of o ≡ refused (formula_refusal h name (map class_of xs) t) → o ≡ None
+    → refused (formula_refusal h name (map class_of ys) t) ≡ None
+told_none h name xs ys t o same told none =
+    ap (λ (cs : List Class). refused (formula_refusal h name (map class_of cs) t)) (sym same) ∙ sym told ∙ ap (option_map answer_of) none
+
+pub told_some : (h : History) (name : Name) (xs ys : List Class) (t : Term) (o : Option FormAnswer) (answer : FormAnswer) → xs ≡ ys → option_map answer_of o ≡ refused (formula_refusal h name (map class_of xs) t) → o ≡ Some answer
+    → Some (answer_of answer) ≡ refused (formula_refusal h name (map class_of ys) t)
+told_some h name xs ys t o answer same told some =
+    sym (ap (option_map answer_of) some) ∙ told ∙ ap (λ (cs : List Class). refused (formula_refusal h name (map class_of cs) t)) same
 
 -- the session of a try, which has the bank that it had before
 pub same_session : (old : Session) (bank : Content) → bank ≡ old.bank → ◌≡◌ {A = Session} (record { bank = bank; history = old.history }) old

@@ -33,12 +33,12 @@ unfolding undo_refusal
 undo_lawful h x known past = refusal_is h x true false known past
 
 -- no event has the name
-pub undo_unknown : (h : History) (form : Form) (x : Name) (answer : Answer) → is_some (looked_up x h) ≡ false → answer ≡ refusal_answer (NoSuchEvent x) → Some answer ≡ untaken h form (model.Undo x)
+pub undo_unknown : (h : History) (form : Form) (x : Name) (answer : Answer) → is_some (looked_up x h) ≡ false → answer ≡ refusal_answer (NoSuchEvent x) → Some answer ≡ untaken h (model.Undo x)
 unfolding undo_refusal
 undo_unknown h form x answer unknown is = ap (λ (a : Answer). Some a) is ∙ sym (ap refused (refusal_is h x false (is_some (event_in x ground_history)) unknown refl))
 
 -- the event is one of the ground history
-pub undo_ground : (h : History) (form : Form) (x : Name) (answer : Answer) → IsGroundEvent x h → answer ≡ refusal_answer (GroundEvent x) → Some answer ≡ untaken h form (model.Undo x)
+pub undo_ground : (h : History) (form : Form) (x : Name) (answer : Answer) → IsGroundEvent x h → answer ≡ refusal_answer (GroundEvent x) → Some answer ≡ untaken h (model.Undo x)
 unfolding undo_refusal
 undo_ground h form x answer ground is = ap (λ (a : Answer). Some a) is ∙ sym (ap refused (refusal_is h x true true ground.known ground.ground))
 

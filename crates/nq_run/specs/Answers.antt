@@ -24,7 +24,7 @@ quick_of quick.Taut = model.Taut
 quick_of quick.Eval = model.Eval
 quick_of quick.Inst = model.Inst
 
--- the refusal that a fault tells of a definition of this name; want of memory refuses nothing, nor does what isn't built yet
+-- the refusal that a fault tells of a definition of this name; want of memory refuses nothing
 abbrev pub fault_refusal : Content → Name → AdmitFault → Option Refusal
 fault_refusal bank name admit.NameInUse = Some (FunctionInUse name)
 fault_refusal bank name (admit.FormalIsConstant x) = Some (FormalIsConstant (text_at bank x))
@@ -32,5 +32,4 @@ fault_refusal bank name (admit.RepeatedFormal x) = Some (RepeatedFormal (text_at
 fault_refusal bank name (admit.FreeVariable x) = Some (FreeVariable (text_at bank x))
 fault_refusal bank name admit.BadMeasureHint = Some BadMeasureHint
 fault_refusal bank name admit.TooManyEvents = Some TooManyEvents
-fault_refusal bank name admit.NotYet = None
 fault_refusal bank name admit.Memory = None

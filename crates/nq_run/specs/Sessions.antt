@@ -1,7 +1,9 @@
 -- How a session takes a form: the try of a lemma, and what the session is afterwards.
 use Rattle.std.specs.Prelude.{◌≡◌, ℕ, Bool, true, List, [], ◌∷◌, ◌++◌, All, Option, None, Some, if◌then◌else◌}
 use Rattle.nq_logic.specs.Terms.{Name, Term}
-use Rattle.nq_logic.specs.Histories.{History, Lemma}
+use Rattle.nq_logic.specs.Formulas.{holds}
+use Rattle.nq_logic.specs.Derivations.{Derivable}
+use Rattle.nq_logic.specs.Histories.{History, Lemma, RuleClass}
 use Rattle.nq_bank.specs.Content.{Content, Grows, term_at, text_at}
 use Rattle.nq_bank.specs.Marks.{IsMarkOf}
 use Rattle.nq_bank.specs.declared.node.Mark.{Mark}
@@ -21,45 +23,70 @@ use Rattle.nq_kernel.specs.Proving.{IsFirstFragment}
 use Rattle.nq_fragments.specs.Fragments.{IsInNoFragment}
 use Rattle.nq_form.specs.Form.{Form}
 use Rattle.nq_log.specs.States.{Claim, Adds}
-use Rattle.nq_events.specs.Events.{Event}
+use Rattle.nq_events.specs.Events.{Event, Hints}
 use Rattle.nq_comment.specs.Reports.{Answer}
 use Rattle.nq_comment.specs.ReportViews.{answer_of}
 use Rattle.nq_run.specs.declared.session.Session.{Session}
 use Rattle.nq_run.specs.declared.session.Taken.{Taken}
+use Rattle.nq_run.specs.declared.proving.Found.{Found}
+use Rattle.nq_run.specs.declared.proving.Found.TheVariants as finding
+use Rattle.nq_run.specs.declared.proving.Found.TheVariants.{Fragment, Moves}
 use Rattle.nq_run.specs.declared.proving.Tried.{Tried}
 use Rattle.nq_answers.specs.Claims.{claims_at, claims_of}
 use Rattle.nq_run.specs.HistoryView.{history_of, SessionStands}
 use Rattle.nq_run.specs.Outcome.{AreBlocks}
 use Rattle.nq_answers.specs.Steps.{Answers, AnswersUnless, IsTried, after, after_event, is_taken, untaken}
 
--- the fragment is the first that holds the term; where there is none, no fragment holds it
-abbrev pub IsFoundBy : History → Term → Option Quick → Type 0
-IsFoundBy h t None = IsInNoFragment h t
-IsFoundBy h t (Some way) = IsFirstFragment h t way
+-- what a verdict says of a lemma
+abbrev pub found_of : Verdict → Found
+found_of (Proved line (First way)) = Fragment line way
+found_of (Proved line (Waterfall path)) = Moves line
+found_of (Failed path cause) = finding.Unknown
+found_of OutOfSteps = finding.OutOfSteps
+found_of (NotYet path) = finding.Unknown
 
--- the line that shows a lemma by a fragment, as a verdict tells it
-abbrev pub ShownBy : Verdict → Option (ℕ × Quick) → Type 0
-ShownBy (Proved line (First way)) shown = shown ≡ Some (line, way)
-ShownBy (Proved line (Waterfall path)) shown = shown ≡ None
-ShownBy (Failed path cause) shown = shown ≡ None
-ShownBy OutOfSteps shown = shown ≡ None
-ShownBy (NotYet path) shown = shown ≡ None
+-- the line that shows a lemma
+abbrev pub line_in : Found → Option ℕ
+line_in (Fragment line way) = Some line
+line_in (Moves line) = Some line
+line_in finding.OutOfSteps = None
+line_in finding.Unknown = None
 
--- the line has only the term, and the fragment is the first that holds it; where there is no line, no fragment holds it
-abbrev pub IsShownBy : Work → History → Term → Option (ℕ × Quick) → Type 0
-IsShownBy work h t None = IsInNoFragment h t
-IsShownBy work h t (Some shown) = (has_only (clause_at work.bank work.log shown.0) (t ∷ []) ≡ true) × IsFirstFragment h t shown.1
+-- the line has only the term, and the fragment is the first that holds it, or no fragment holds it
+abbrev pub IsShownBy : Work → History → Term → Found → Type 0
+IsShownBy work h t (Fragment line way) = (has_only (clause_at work.bank work.log line) (t ∷ []) ≡ true) × IsFirstFragment h t way
+IsShownBy work h t (Moves line) = (has_only (clause_at work.bank work.log line) (t ∷ []) ≡ true) × IsInNoFragment h t
+IsShownBy work h t finding.OutOfSteps = IsInNoFragment h t
+IsShownBy work h t finding.Unknown = IsInNoFragment h t
 
--- what a lemma claims that was proved in a fragment
-abbrev pub found_claims : Name → Term → Option Quick → List Claim
-found_claims name t None = []
-found_claims name t (Some way) = Adds (Lemma name [] t) ∷ []
+-- what is found of a lemma is so: it is derivable where it is proved
+abbrev pub IsFoundBy : History → Term → Found → Type 0
+IsFoundBy h t (Fragment line way) = IsFirstFragment h t way × Derivable h (holds t)
+IsFoundBy h t (Moves line) = IsInNoFragment h t × Derivable h (holds t)
+IsFoundBy h t finding.OutOfSteps = IsInNoFragment h t
+IsFoundBy h t finding.Unknown = IsInNoFragment h t
 
--- The try of a lemma: its fragment, the block of what it claims, and the bank as it was before.
+-- the fragment that proved a lemma
+abbrev pub way_in : Found → Option Quick
+way_in (Fragment line way) = Some way
+way_in (Moves line) = None
+way_in finding.OutOfSteps = None
+way_in finding.Unknown = None
+
+-- what a lemma claims that a line shows
+abbrev pub shown_claims : Name → Term → Option ℕ → List Claim
+shown_claims name t None = []
+shown_claims name t (Some line) = Adds (Lemma name [] t) ∷ []
+
+-- what a lemma claims of which this is found
+abbrev pub found_claims : Name → Term → Found → List Claim
+found_claims name t found = shown_claims name t (line_in found)
+
+-- The try of a lemma: what is found of it, the block of what it claims, and the bank as it was before.
 pub record Tries (bank : Content) (history : List Entry) (name : Sym) (goal : TermId) (logging : Bool) (tried : Tried) : Type 0 where
   pub same : tried.bank ≡ bank
-  pub found : IsFoundBy (events_at bank history) (term_at bank goal) tried.way
-  pub written : logging ≡ true → AreBlocks (events_at bank history) (found_claims (text_at bank name) (term_at bank goal) tried.way) tried.block
+  pub found : IsFoundBy (events_at bank history) (term_at bank goal) tried.found
+  pub written : logging ≡ true → AreBlocks (events_at bank history) (found_claims (text_at bank name) (term_at bank goal) tried.found) tried.block
 
 -- the mark was taken of an earlier bank, which held these entries and has grown since
 pub record IsMarkBefore (bank : Content) (history : List Entry) (mark : Mark) : Type 0 where
@@ -90,21 +117,21 @@ pub record Takes (old : History) (form : Form) (logging : Bool) (r : Taken) : Ty
 
 -- the same for the event of a form that isn't refused
 pub record TakesEvent (old : History) (form : Form) (event : Event) (logging : Bool) (r : Taken) : Type 0 where
-  pub answered : AnswersUnless (untaken old form event) old form event (answer_of r.answer)
+  pub answered : AnswersUnless (untaken old event) old form event (answer_of r.answer)
   pub after_is : history_of r.session ≡ after_event old event (answer_of r.answer)
   pub stands : SessionStands r.session
   pub written : logging ≡ true → AreBlocks old (claims_of event (answer_of r.answer)) r.block
 
--- the history after a lemma without rule classes, and its claim, where it was proved
-abbrev pub after_lemma : History → Name → Term → Answer → History
-after_lemma old name t answer = if is_taken answer then old ++ Lemma name [] t ∷ [] else old
+-- the history after a lemma, and its claim, where it was proved
+abbrev pub after_lemma : History → Name → List RuleClass → Term → Answer → History
+after_lemma old name classes t answer = if is_taken answer then old ++ Lemma name classes t ∷ [] else old
 
 abbrev pub lemma_claims : Name → Term → Answer → List Claim
 lemma_claims name t answer = if is_taken answer then Adds (Lemma name [] t) ∷ [] else []
 
--- the same for a lemma without rule classes that nothing keeps from being tried
-pub record TriesLemma (old : History) (form : Form) (name : Name) (t : Term) (logging : Bool) (r : Taken) : Type 0 where
-  pub tried : IsTried old form t (answer_of r.answer)
-  pub after_is : history_of r.session ≡ after_lemma old name t (answer_of r.answer)
+-- the same for a lemma that nothing keeps from being tried
+pub record TriesLemma (old : History) (form : Form) (name : Name) (classes : List RuleClass) (t : Term) (hints : Hints) (logging : Bool) (r : Taken) : Type 0 where
+  pub tried : IsTried old form hints t (answer_of r.answer)
+  pub after_is : history_of r.session ≡ after_lemma old name classes t (answer_of r.answer)
   pub stands : SessionStands r.session
   pub written : logging ≡ true → AreBlocks old (lemma_claims name t (answer_of r.answer)) r.block

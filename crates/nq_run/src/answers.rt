@@ -4,8 +4,9 @@ ghost use Rattle.nq_sexp.specs.Tree.{tree};
 ghost use Rattle.nq_comment.specs.Reports as model;
 ghost use Rattle.nq_comment.specs.ReportViews.{answer_of, words_of};
 ghost use Rattle.nq_bank.specs.Content.{text_at};
+ghost use Rattle.nq_history.specs.Events.{class_of};
 ghost use Rattle.nq_shell.specs.Admission.{refusal_at};
-ghost use Rattle.nq_events.specs.Refusals.{FormalIsConstant, GroundEvent, NameInUse, NoSuchEvent, OfShell, RepeatedFormal, TooManyEvents};
+ghost use Rattle.nq_events.specs.Refusals.{FormalIsConstant, GroundEvent, NameInUse, NoSuchEvent, NotOfShape, OfShell, RepeatedFormal, TooManyEvents};
 ghost use Rattle.nq_run.specs.Answers.{IsAnswerTo, fault_refusal, quick_of};
 ghost use Rattle.nq_answers.specs.Steps.{not_yet, refusal_answer, refused};
 
@@ -14,6 +15,7 @@ use nq_admit::AdmitFault;
 use nq_bank::{Bank, Sym};
 use nq_comment::{FormAnswer, Quick as ShownQuick, Refusal, shown_word};
 use nq_event::EventFault;
+use nq_history::Class;
 use nq_kernel::Quick;
 use nq_sexp::Sexp;
 use nq_shell::ShellFault;
@@ -105,6 +107,17 @@ pub(crate) fn too_many_events(alloc: Global) -> Result<FormAnswer, AllocError>
     alone(alloc, 33, b"TooManyEvents".as_slice())
 }
 
+/// The refusal of an axiom or a lemma that is no rule of this class.
+pub(crate) fn not_of_shape(alloc: Global, class: Class) -> Result<FormAnswer, AllocError>
+    ensures { IfOk result (λ answer. answer_of answer ≡ refusal_answer (NotOfShape (class_of class))) }
+{
+    match class {
+        Class::Rewrite => alone(alloc, 50, b"NotRewrite".as_slice()),
+        Class::Elim => alone(alloc, 51, b"NotElim".as_slice()),
+        Class::Generalize => alone(alloc, 52, b"NotGeneralize".as_slice()),
+    }
+}
+
 /// The text of a name; none where the bank doesn't hold it.
 fn text_of(bank: &Bank, name: Sym) -> &[u8]
     ensures { result.now ≡ text_at bank.now name }
@@ -153,7 +166,6 @@ pub(crate) fn unadmitted(
         AdmitFault::FormalIsConstant(formal) => formal_is_constant(alloc, text_of(bank, formal)),
         AdmitFault::BadMeasureHint => alone(alloc, 65, b"BadMeasureHint".as_slice()),
         AdmitFault::TooManyEvents => too_many_events(alloc),
-        AdmitFault::NotYet => unreachable!(),
         AdmitFault::Memory => unreachable!(),
     }
 }

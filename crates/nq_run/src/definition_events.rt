@@ -1,7 +1,6 @@
 // Definitions.
 ghost use Rattle.std.specs.Prelude.{◌≡◌, None, All, IfOk, map};
 ghost use Rattle.std.specs.Option.{option_map};
-ghost use Rattle.nq_form.specs.Form.{Form};
 ghost use Rattle.nq_sexp.specs.Tree.{tree};
 ghost use Rattle.nq_bank.specs.Content.{IsNamed, Stands, term_at, text_at};
 ghost use Rattle.nq_bank.specs.Shells.{texts_at};
@@ -10,28 +9,26 @@ ghost use Rattle.nq_event.specs.EventsAt.{measure_at, DefnStands};
 ghost use Rattle.nq_events.specs.Events as model;
 ghost use Rattle.nq_run.specs.HistoryView.{history_of, SessionStands};
 ghost use Rattle.nq_run.specs.Sessions.{IsMarkBefore, TakesEvent};
-ghost use Rattle.nq_spelling.specs.SpelledEvents.{IsSpelledDefinition};
+ghost use Rattle.nq_spelling.specs.SpelledEvents.{IsSpelledRecursion};
 ghost use Rattle.nq_answers.specs.Steps.{untaken};
 
-use crate::answers::{not_yet, unadmitted};
+use crate::answers::unadmitted;
 use crate::session::{Given, Session, Taken};
 use nq_admit::{AdmitFault, admit};
 use nq_bank::{Sym, TermId};
 use nq_block::Closing;
+use nq_calls::mentions_at;
 use nq_comment::FormAnswer;
 use nq_event::Measure;
 use nq_history::{Entry, EntryKind};
 use nq_kernel::Prover;
-use nq_sexp::Sexp;
 use std::alloc::{AllocError, Global};
 
 impl Session {
-    /// Why a definition isn't taken: the Definition Principle refuses it, there is no room, or it calls its own function,
-    /// which isn't built yet.
+    /// Why a definition isn't taken or tried: the Definition Principle refuses it, or there is no room.
     fn definition_answer(
         &self,
         alloc: Global,
-        form: &Sexp<'_>,
         name: Sym,
         formals: &[Sym],
         body: TermId,
@@ -40,13 +37,12 @@ impl Session {
         requires stands { SessionStands self.now }
         requires event { DefnStands self.now.bank name formals.now body measures.now }
         ensures { IfOk result (λ answer. option_map answer_of answer
-            ≡ untaken (history_of self.now) (tree form.now) (model.Defn (text_at self.now.bank name) (texts_at self.now.bank formals.now)
+            ≡ untaken (history_of self.now) (model.Defn (text_at self.now.bank name) (texts_at self.now.bank formals.now)
             (term_at self.now.bank body) (map (measure_at self.now.bank) measures.now))) }
     {
         match admit(&self.bank, &self.history, name, formals, body, measures) {
             Ok(()) => Ok(None),
             Err(AdmitFault::Memory) => Err(AllocError),
-            Err(AdmitFault::NotYet) => Ok(Some(not_yet(alloc, form)?)),
             Err(fault) => Ok(Some(unadmitted(alloc, &self.bank, name, fault)?)),
         }
     }
@@ -66,20 +62,24 @@ impl Session {
         requires learnt { P.has_learnt prover.old self.history }
         requires mark { IsMarkBefore self.bank self.history given.mark }
         requires event { DefnStands self.bank name formals.items body measures.now }
-        requires spelled { IsSpelledDefinition (history_of self) (text_at self.bank name) (texts_at self.bank formals.items) (term_at self.bank body) }
+        requires spelled { IsSpelledRecursion (history_of self) (text_at self.bank name) (texts_at self.bank formals.items) (term_at self.bank body)
+            (map (measure_at self.bank) measures.now) }
         ensures taken { IfOk result (TakesEvent (history_of self) (tree given.entry.form.now)
             (model.Defn (text_at self.bank name) (texts_at self.bank formals.items) (term_at self.bank body) (map (measure_at self.bank) measures.now)) given.entry.logging) }
         ensures learnt { IfOk result (λ r. P.has_learnt prover.new r.session.history) }
     {
         if let Some(answer) = self.definition_answer(
             alloc,
-            given.form,
             name,
             formals.as_slice(),
             body,
             measures,
         )? {
             return Ok(self.untaken(alloc, given.mark, answer));
+        }
+        let again = mentions_at(&self.bank, name, body)?;
+        if again {
+            return self.define_recursive(alloc, prover, given, name, formals, body, measures);
         }
         let told = Vec::from_slice(alloc, formals.as_slice())?;
         let block = self.block(alloc, given.logging, &Closing::Defn(name, told, body))?;

@@ -12,11 +12,13 @@ mod header;
 // one step: a form is answered in a history
 mod answers;
 mod proving;
+mod recursions;
 mod session;
 
 // events, each by its kind
 mod definition_events;
 mod formula_events;
+mod measured;
 mod name_events;
 mod shell_events;
 mod undo_events;

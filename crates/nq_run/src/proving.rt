@@ -7,18 +7,21 @@ ghost use Rattle.nq_history.specs.Hints.{HintsStand};
 ghost use Rattle.nq_kernel.specs.Growing.{LogGrows};
 ghost use Rattle.nq_kernel.specs.Hints.{HintsAreIn};
 ghost use Rattle.nq_kernel.specs.Over.{IsVariable, RulesAreOver};
-ghost use Rattle.nq_kernel.specs.Ready.{IsReady};
+ghost use Rattle.nq_kernel.specs.Ready.{IsReady, WorkHolds};
 ghost use Rattle.nq_block.specs.Blocks.{IsBlock};
+ghost use Rattle.nq_logic.specs.Histories as logic;
+ghost use Rattle.nq_log.specs.States.{Adds};
+ghost use Rattle.nq_block.specs.declared.closing.Closing.TheVariants as closing;
 ghost use Rattle.nq_block.specs.Closings.{CanClose, ClosingStands, IsFree, claim_at};
 ghost use Rattle.nq_block.specs.Names.{HasSymbols};
 ghost use Rattle.nq_run.specs.Outcome.{AreBlocks};
-ghost use Rattle.nq_run.specs.Sessions.{IsFoundBy, IsShownBy, ShownBy, Tries, found_claims};
+ghost use Rattle.nq_run.specs.Sessions.{IsFoundBy, IsShownBy, Tries, found_claims, found_of, line_in, way_in};
 ghost use Rattle.nq_spelling.specs.SpelledEvents.{IsSpelledFormula};
 
 use nq_bank::{Bank, Mark, Sym, TermId};
 use nq_block::{Closing, write_block};
 use nq_history::{Hints, History};
-use nq_kernel::{Log, Proof, Prover, Quick, Verdict, Work};
+use nq_kernel::{Log, Proof, Prover, Quick, Verdict, Work, held_work};
 use nq_logtext::Text;
 use std::alloc::{AllocError, Global};
 
@@ -30,24 +33,71 @@ pub(crate) struct Conjecture<'a> {
     pub(crate) hints: &'a Hints,
 }
 
-/// The try of a lemma: the bank as it was before, the fragment that proved the lemma, and the block of what it claims.
+/// What a prover found of a lemma.
+#[derive(Clone, Copy)]
+pub(crate) enum Found {
+    /// The line of this number shows it, by this fragment.
+    Fragment(u64, Quick),
+    /// The line of this number shows it, by moves.
+    Moves(u64),
+    /// The step limit was reached.
+    OutOfSteps,
+    /// Nothing that is told yet.
+    Unknown,
+}
+
+/// The try of a lemma: the bank as it was before, what was found of the lemma, and the block of what it claims.
 #[derive(Drop)]
 pub(crate) struct Tried {
     pub(crate) bank: Bank,
-    pub(crate) way: Option<Quick>,
+    pub(crate) found: Found,
     pub(crate) block: Text,
 }
 
-/// The line that shows a lemma, and the fragment that proved it.
-fn shown_by(verdict: &Verdict) -> Option<(u64, Quick)>
-    ensures { ShownBy verdict.now result }
+/// What a verdict says of a lemma.
+fn found_by(verdict: &Verdict) -> Found
+    ensures { result ≡ found_of verdict.now }
 {
     match verdict {
-        Verdict::Proved(line, Proof::First(way)) => Some((*line, *way)),
-        Verdict::Proved(_, Proof::Waterfall(_)) => None,
-        Verdict::Failed(_, _) => None,
-        Verdict::OutOfSteps => None,
-        Verdict::NotYet(_) => None,
+        Verdict::Proved(line, Proof::First(way)) => Found::Fragment(*line, *way),
+        Verdict::Proved(line, Proof::Waterfall(_)) => Found::Moves(*line),
+        Verdict::Failed(_, _) => Found::Unknown,
+        Verdict::OutOfSteps => Found::OutOfSteps,
+        Verdict::NotYet(_) => Found::Unknown,
+    }
+}
+
+/// The fragment that proved a lemma.
+pub(crate) fn way_in(found: Found) -> Option<Quick>
+    ensures { result ≡ way_in found }
+{
+    match found {
+        Found::Fragment(_, way) => Some(way),
+        Found::Moves(_) => None,
+        Found::OutOfSteps => None,
+        Found::Unknown => None,
+    }
+}
+
+/// Did moves prove a lemma?
+pub(crate) fn is_proved(found: Found) -> bool {
+    match found {
+        Found::Fragment(_, _) => false,
+        Found::Moves(_) => true,
+        Found::OutOfSteps => false,
+        Found::Unknown => false,
+    }
+}
+
+/// The line that shows a lemma.
+fn line_in(found: Found) -> Option<u64>
+    ensures { result ≡ line_in found }
+{
+    match found {
+        Found::Fragment(line, _) => Some(line),
+        Found::Moves(line) => Some(line),
+        Found::OutOfSteps => None,
+        Found::Unknown => None,
     }
 }
 
@@ -77,7 +127,8 @@ pub(crate) fn try_lemma<P: Prover>(
     let mark = bank.mark();
     let mut work = Work::new(bank, Log::new(alloc), steps);
     let verdict = prover.prove(&mut work, history, lemma.goal, lemma.hints)?;
-    let tried = tried_by(alloc, work, history, lemma, shown_by(&verdict), logging)?;
+    held_work();
+    let tried = tried_by(alloc, work, history, lemma, found_by(&verdict), logging)?;
     Ok(given_back(tried, mark))
 }
 
@@ -87,7 +138,7 @@ fn tried_by(
     work: Work,
     history: &History,
     lemma: Conjecture<'_>,
-    shown: Option<(u64, Quick)>,
+    found: Found,
     logging: bool,
 ) -> Result<Tried, AllocError>
     requires legal { LogGrows work.bank history.now [] work.log }
@@ -97,44 +148,83 @@ fn tried_by(
     requires goal { Stands work.bank lemma.goal }
     requires spelled { IsSpelledFormula (events_at work.bank history.now) (text_at work.bank lemma.name) (term_at work.bank lemma.goal) }
     requires free { IsFree (events_at work.bank history.now) (text_at work.bank lemma.name) }
-    requires shown { IsShownBy work (events_at work.bank history.now) (term_at work.bank lemma.goal) shown }
+    requires holds { WorkHolds history.now work }
+    requires shown { IsShownBy work (events_at work.bank history.now) (term_at work.bank lemma.goal) found }
     ensures bank { IfOk result (λ tried. tried.bank ≡ work.bank) }
-    ensures found { IfOk result (λ tried. IsFoundBy (events_at work.bank history.now) (term_at work.bank lemma.entry.goal) tried.way) }
+    ensures found { IfOk result (λ tried. IsFoundBy (events_at work.bank history.now) (term_at work.bank lemma.entry.goal) tried.found) }
     ensures written { IfOk result (λ tried. logging ≡ true → AreBlocks (events_at work.bank history.now)
-        (found_claims (text_at work.bank lemma.entry.name) (term_at work.bank lemma.entry.goal) tried.way) tried.block) }
+        (found_claims (text_at work.bank lemma.entry.name) (term_at work.bank lemma.entry.goal) tried.found) tried.block) }
 {
-    match shown {
-        Some((line, way)) => {
-            let closing = Closing::Lemma(lemma.name, lemma.goal, line);
-            let block = block_of(alloc, logging, &work.bank, history, &work.log, &closing)?;
-            Ok(Tried {
-                bank: work.bank,
-                way: Some(way),
-                block,
-            })
-        }
-        None => Ok(Tried {
-            bank: work.bank,
-            way: None,
-            block: Text::new(alloc),
-        }),
+    let block = block_found(alloc, &work, history, lemma, found, logging)?;
+    Ok(Tried {
+        bank: work.bank,
+        found,
+        block,
+    })
+}
+
+/// The block of the lemma, where a line shows it.
+fn block_found(
+    alloc: Global,
+    work: &Work,
+    history: &History,
+    lemma: Conjecture<'_>,
+    found: Found,
+    logging: bool,
+) -> Result<Text, AllocError>
+    requires legal { LogGrows work.now.bank history.now [] work.now.log }
+    requires over { RulesAreOver IsVariable work.now.bank history.now 0 work.now.log }
+    requires symbols { HasSymbols (events_at work.now.bank history.now) }
+    requires name { IsNamed work.now.bank lemma.name }
+    requires goal { Stands work.now.bank lemma.goal }
+    requires spelled { IsSpelledFormula (events_at work.now.bank history.now) (text_at work.now.bank lemma.name) (term_at work.now.bank lemma.goal) }
+    requires free { IsFree (events_at work.now.bank history.now) (text_at work.now.bank lemma.name) }
+    requires shown { IsShownBy work.now (events_at work.now.bank history.now) (term_at work.now.bank lemma.goal) found }
+    ensures { IfOk result (λ block. logging ≡ true → AreBlocks (events_at work.now.bank history.now)
+        (found_claims (text_at work.now.bank lemma.entry.name) (term_at work.now.bank lemma.entry.goal) found) block) }
+{
+    match line_in(found) {
+        Some(line) => lemma_block(alloc, work, history, lemma, line, logging),
+        None => Ok(Text::new(alloc)),
     }
+}
+
+/// The block of a lemma that this line shows.
+fn lemma_block(
+    alloc: Global,
+    work: &Work,
+    history: &History,
+    lemma: Conjecture<'_>,
+    line: u64,
+    logging: bool,
+) -> Result<Text, AllocError>
+    requires legal { LogGrows work.now.bank history.now [] work.now.log }
+    requires over { RulesAreOver IsVariable work.now.bank history.now 0 work.now.log }
+    requires symbols { HasSymbols (events_at work.now.bank history.now) }
+    requires name { IsNamed work.now.bank lemma.name }
+    requires goal { Stands work.now.bank lemma.goal }
+    requires closes { CanClose work.now.bank history.now work.now.log (closing.Lemma lemma.name lemma.goal line) }
+    ensures { IfOk result (λ block. logging ≡ true → IsBlock (events_at work.now.bank history.now)
+        (Adds (logic.Lemma (text_at work.now.bank lemma.entry.name) [] (term_at work.now.bank lemma.entry.goal))) block) }
+{
+    let closing = Closing::Lemma(lemma.name, lemma.goal, line);
+    block_of(alloc, logging, &work.bank, history, &work.log, &closing)
 }
 
 /// The try, without what the proof made in the bank past the mark.
 fn given_back(tried: Tried, mark: Mark) -> Tried
     requires { CanRelease tried.bank mark }
     ensures bank { result.bank ≡ released tried.bank mark }
-    ensures way { result.way ≡ tried.way }
+    ensures found { result.found ≡ tried.found }
     ensures block { result.block ≡ tried.block }
 {
     let Tried {
         mut bank,
-        way,
+        found,
         block,
     } = tried;
     bank.release(mark);
-    Tried { bank, way, block }
+    Tried { bank, found, block }
 }
 
 /// The block of what an event claims; no text where no log is written.

@@ -149,7 +149,7 @@ impl Session {
                 )
             }
             Event::AddAxiom(name, classes, axiom) => {
-                self.add_axiom(alloc, prover, given, name, classes.as_slice(), axiom)
+                self.add_axiom(alloc, prover, given, name, classes, axiom)
             }
             Event::ProveLemma(name, classes, goal, hints) => {
                 let lemma = Conjecture {
@@ -157,7 +157,7 @@ impl Session {
                     goal,
                     hints: &hints,
                 };
-                self.prove_lemma(alloc, prover, given, lemma, classes.as_slice())
+                self.prove_lemma(alloc, prover, given, lemma, classes)
             }
             Event::Toggle(name, old, disabled) => self.toggle(
                 alloc, prover, given, name, old, disabled,

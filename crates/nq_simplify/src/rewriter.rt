@@ -1,8 +1,10 @@
 //! What rewrites a literal of a goal.
 ghost use Rattle.std.specs.Prelude.{◌≡◌, All, IfOk, IfSome, Err};
 ghost use Rattle.nq_bank.specs.Content.{term_at, terms_at};
+ghost use Rattle.nq_history.specs.Events.{events_at};
 ghost use Rattle.nq_kernel.specs.Growing.{WorkStands, WorkGrows};
 ghost use Rattle.nq_lines.specs.Lines.{IsTermIn};
+ghost use Rattle.nq_lines.specs.OwnTerms.{HasOwnTerms};
 ghost use Rattle.nq_simplify.specs.Simplified.{IsNewLiteral};
 
 use nq_bank::TermId;
@@ -30,6 +32,7 @@ pub trait Rewriter {
         literal: TermId,
     ) -> Result<Option<NewLiteral>, Stop>
         requires stands { WorkStands history.now work.old }
+        requires ready { HasOwnTerms (events_at work.old.bank history.now) }
         requires others { All (IsTermIn history.now work.old) others.now }
         requires literal { IsTermIn history.now work.old literal }
         ensures new { IfOk result (λ o. IfSome o (λ r. IsNewLiteral history.now work.new (terms_at work.old.bank others.now) (term_at work.old.bank literal) r)) }

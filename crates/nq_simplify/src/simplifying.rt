@@ -5,7 +5,9 @@
 //! closes it; the second is left.
 ghost use Rattle.std.specs.Prelude.{◌≡◌, IfOk, Err};
 ghost use Rattle.nq_bank.specs.Content.{terms_at};
+ghost use Rattle.nq_history.specs.Events.{events_at};
 ghost use Rattle.nq_kernel.specs.Growing.{WorkStands, WorkGrows};
+ghost use Rattle.nq_lines.specs.OwnTerms.{HasOwnTerms};
 ghost use Rattle.nq_simplify.specs.Simplified.{AreTermsIn, BasisStands, IsOutcome, IsSimplified, IsTurn, IsDivided};
 
 use crate::basis::Basis;
@@ -28,6 +30,7 @@ fn next_outcome<R: Rewriter>(
     goal: &[TermId],
 ) -> Result<Outcome, Stop>
     requires stands { WorkStands history.now work.old }
+    requires ready { HasOwnTerms (events_at work.old.bank history.now) }
     requires basis { BasisStands history.now work.old basis.now }
     requires goal { AreTermsIn history.now work.old goal.now }
     ensures outcome { IfOk result (λ o. IsOutcome history.now work.new (terms_at work.old.bank goal.now) o) }
@@ -52,6 +55,7 @@ pub fn simplify_goal<R: Rewriter>(
     rounds: u64,
 ) -> Result<Simplified, Stop>
     requires stands { WorkStands history.now work.old }
+    requires ready { HasOwnTerms (events_at work.old.bank history.now) }
     requires basis { BasisStands history.now work.old basis.now }
     requires goal { AreTermsIn history.now work.old goal.now }
     ensures simplified { IfOk result (λ s. IsSimplified history.now work.new (terms_at work.old.bank goal.now) s) }

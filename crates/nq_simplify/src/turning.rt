@@ -1,7 +1,9 @@
 //! A literal of a goal is rewritten.
 ghost use Rattle.std.specs.Prelude.{◌≡◌, ◌<◌, IfOk, Err, length};
 ghost use Rattle.nq_bank.specs.Content.{terms_at};
+ghost use Rattle.nq_history.specs.Events.{events_at};
 ghost use Rattle.nq_kernel.specs.Growing.{WorkStands, WorkGrows};
+ghost use Rattle.nq_lines.specs.OwnTerms.{HasOwnTerms};
 ghost use Rattle.nq_simplify.specs.Simplified.{AreTermsIn, BasisStands, IsOutcome};
 
 use crate::basis::Basis;
@@ -23,6 +25,7 @@ fn rewrite_at<R: Rewriter>(
     at: usize,
 ) -> Result<Outcome, Stop>
     requires stands { WorkStands history.now work.old }
+    requires ready { HasOwnTerms (events_at work.old.bank history.now) }
     requires basis { BasisStands history.now work.old basis.now }
     requires goal { AreTermsIn history.now work.old goal.now }
     requires at { at < length goal.now }
@@ -61,6 +64,7 @@ pub fn rewrite_first<R: Rewriter>(
     goal: &[TermId],
 ) -> Result<Outcome, Stop>
     requires stands { WorkStands history.now work.old }
+    requires ready { HasOwnTerms (events_at work.old.bank history.now) }
     requires basis { BasisStands history.now work.old basis.now }
     requires goal { AreTermsIn history.now work.old goal.now }
     ensures outcome { IfOk result (λ o. IsOutcome history.now work.new (terms_at work.old.bank goal.now) o) }

@@ -1,26 +1,32 @@
 -- A log can spell the event that a spelled form asks for, where the form is not refused.
-use Rattle.std.proofs.Common.{◌≡◌, List, ◌∷◌, length}
+use Rattle.std.proofs.Common.{◌≡◌, List, [], ◌∷◌, length, map}
 use Rattle.std.specs.Prelude.{None, Ok, Err}
-use Rattle.nq_logic.specs.Terms.{Name}
+use Rattle.nq_logic.specs.Terms.{Each, Name, Symbol}
+use Rattle.nq_logic.specs.Ground.{symbols_of}
+use Rattle.nq_events.specs.Events.{Measure}
 use Rattle.nq_logic.specs.Histories.{History}
 use Rattle.nq_form.specs.Form.{Form}
 use Rattle.nq_language.specs.Translation.{translated}
-use Rattle.nq_events.specs.EventTerms.{HasEventTerms}
+use Rattle.nq_events.specs.EventTerms.{HasEventTerms, IsEventTerm}
 use Rattle.nq_events.specs.HintRefusals.{hints_refusal, instances_refusal}
 use Rattle.nq_events.specs.HintTerms.{instances_given}
 use Rattle.nq_events.specs.Outlines.{Outline, Outlined, BootStrap, AddShell, Dcl, Defn, AddAxiom, ProveLemma, Toggle, Switch, Undo, Skipped, outline}
 use Rattle.nq_events.specs.Parts.{TypeWord, WrittenMeasure}
-use Rattle.nq_events.specs.Reading.{event_after, event_of, event_refusal, outline_hints_refusal, outlined_event, refusal_after}
+use Rattle.nq_events.specs.Reading.{event_after, event_of, event_refusal, measure_given, outline_hints_refusal, outlined_event, refusal_after}
 use Rattle.nq_events.specs.TermRefusals.{arity_of, arity_with, hints_forms, measure_forms, outline_refusal, term_refusal, terms_refusal, types_refusal}
 use Rattle.nq_events.specs.WrittenHints.{WrittenHint}
 use Rattle.nq_events.proofs.EventTerms.{events_have_terms, first_left, first_right}
-use Rattle.nq_spelling.specs.SpelledEvents.{EventsAreSpelled, HasFewNames, IsSpelledEvent}
+use Rattle.nq_spelling.specs.SpelledEvents.{EventsAreSpelled, HasFewNames, IsSpelledEvent, IsSpelledMeasure}
 use Rattle.nq_spelling.proofs.FormulaSpelling.{AreTerms, formula_spelled, nothing_met, small_term}
 use Rattle.nq_spelling.proofs.HintSpelling.{all_hints_spelled}
 use Rattle.nq_spelling.proofs.OutlineSpelling.{OutlineIs, OutlinedIs, outline_is}
 use Rattle.nq_spelling.proofs.SpelledTerms.{definition_terms_are_spelled}
 use Rattle.nq_spelling.proofs.Tests.{within}
 use Rattle.nq_spelling.proofs.ToggleSpelling.{made_name_spelled}
+
+measures_spelled : (symbols : List Symbol) (measures : List Measure) → Each (λ m. IsEventTerm symbols m.term) measures → Each (IsSpelledMeasure symbols) measures
+measures_spelled symbols [] terms = tt
+measures_spelled symbols (m ∷ measures) terms = (record { over = terms.0.read.over; small = small_term m.term terms.0.small }, measures_spelled symbols measures terms.1)
 
 module _ (h : History) where
   -- what is known of an event whose terms are not refused
@@ -32,9 +38,12 @@ module _ (h : History) where
       let arity = arity_with h name formals in
       let none : term_refusal (arity_with h name formals) body ≡ None = first_left (term_refusal arity body) (terms_refusal arity (measure_forms measures)) e in
       record {
-        function = is.0;
-        over = record { over = terms.body_term.read.over; variables = definition_terms_are_spelled h name formals body is.1 (nothing_met arity body none) };
-        small = small_term (translated arity body) terms.body_term.small;
+        definition = record {
+          function = is.0;
+          over = record { over = terms.body_term.read.over; variables = definition_terms_are_spelled h name formals body is.1 (nothing_met arity body none) };
+          small = small_term (translated arity body) terms.body_term.small;
+        };
+        hinted = measures_spelled ((name, length formals) ∷ symbols_of h) (map (measure_given arity) measures) terms.measure_terms;
       }
 
   axiom_spelled : (name : Name) (types : List TypeWord) (term : Form) → IsSpelledSo (AddAxiom name types term)

@@ -1,6 +1,6 @@
 -- Events that a log can spell.
 use Rattle.std.specs.Prelude.{◌≡◌, ◌<◌, ◌≤◌, ◌^◌, ◌++◌, ⊤, IfSome, IsTrue, None, true, List, [], ◌∷◌, length, nat_le}
-use Rattle.nq_logic.specs.Terms.{Each, Name, Term}
+use Rattle.nq_logic.specs.Terms.{Each, IsTerm, Name, Symbol, Term}
 use Rattle.nq_logic.specs.Histories.{History, Shell}
 use Rattle.nq_logic.specs.Histories as logic
 use Rattle.nq_logic.specs.Ground.{symbols_of}
@@ -15,7 +15,7 @@ use Rattle.nq_form.specs.Widths.{IsNarrow}
 use Rattle.nq_events.specs.OwnRefusals.{event_limit, room_refusal}
 use Rattle.nq_events.specs.Reading.{event_of, event_refusal}
 use Rattle.nq_spelling.specs.Spelled.{IsSpelled}
-use Rattle.nq_events.specs.Events.{Event, Hints, BootStrap, AddShell, Dcl, Defn, AddAxiom, ProveLemma, Toggle, Undo, Skipped}
+use Rattle.nq_events.specs.Events.{Event, Hints, Measure, BootStrap, AddShell, Dcl, Defn, AddAxiom, ProveLemma, Toggle, Undo, Skipped}
 
 -- The name of the axiom or lemma is a symbol in upper case. Its term is over the functions of the history and within the
 -- limits, and its variables are such symbols, none of which is T, F or NIL.
@@ -34,6 +34,16 @@ pub record IsSpelledDefinition (h : History) (name : Name) (formals : List Name)
   pub function : IsSpelledFunction name formals
   pub over : IsTermOf IsVariable ((name, length formals) ∷ symbols_of h) body
   pub small : is_small body ≡ true
+
+-- A measure that is hinted is within the limits, and over the defined function and those of the history.
+pub record IsSpelledMeasure (symbols : List Symbol) (m : Measure) : Type 0 where
+  pub over : IsTerm symbols m.term
+  pub small : is_small m.term ≡ true
+
+-- a definition and its hints
+pub record IsSpelledRecursion (h : History) (name : Name) (formals : List Name) (body : Term) (measures : List Measure) : Type 0 where
+  pub definition : IsSpelledDefinition h name formals body
+  pub hinted : Each (IsSpelledMeasure ((name, length formals) ∷ symbols_of h)) measures
 
 -- The shell's names are symbols in upper case, and its base is not NIL, which stands for none. It has at most 20 parts, and
 -- each names at most 100 recognizers.
@@ -57,7 +67,7 @@ abbrev pub IsSpelledEvent : History → Event → Type 0
 IsSpelledEvent h BootStrap = ⊤
 IsSpelledEvent h (AddShell shell) = IsSpelledShell shell
 IsSpelledEvent h (Dcl name formals) = IsSpelledFunction name formals
-IsSpelledEvent h (Defn name formals body measures) = IsSpelledDefinition h name formals body
+IsSpelledEvent h (Defn name formals body measures) = IsSpelledRecursion h name formals body measures
 IsSpelledEvent h (AddAxiom name classes t) = IsSpelledFormula h name t
 IsSpelledEvent h (ProveLemma name classes t hints) = IsSpelledFormula h name t × AreSpelledHints h hints
 IsSpelledEvent h (Toggle name old disabled) = IsTrue (is_symbol name)

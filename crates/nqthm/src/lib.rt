@@ -11,13 +11,19 @@ ghost use Rattle.nq_io.specs.Faults.{Rose};
 ghost use Rattle.nq_run.specs.Outcome.{GrowsWithin, held_in};
 ghost use Rattle.nqthm.specs.Commands.{HasChecked, HasRun, check_status};
 ghost use Rattle.nqthm.specs.Accepted.{WrittenLogs};
+ghost use Rattle.nqthm.specs.Samples.{IsSampled};
 ghost use Rattle.nqthm.specs.Words.{command_of};
 
+// the command `sample`
+mod sample;
+
+// the words
 mod words;
 
+use crate::sample::sample_status;
 use nq_check::{CheckFault, Checked, check};
 use nq_io::{Sink, SinkFault, Source};
-use nq_quick::FirstPass;
+use nq_prover::Searcher;
 use nq_run::run_events;
 use std::alloc::Global;
 pub use words::{Command, WordsFault, read_command};
@@ -28,6 +34,9 @@ const USAGE: &[u8] = b"usage: nqthm run [--steps N] | log [--steps N] | check | 
 /// The status where the words are not those of a command.
 const REFUSED_WORDS: u8 = 2;
 
+/// The status where the spelling of the file is wrong.
+const WRONG_SPELLING: u8 = 3;
+
 /// The status where a sink could not be written.
 const FAILED_WRITE: u8 = 5;
 
@@ -37,9 +46,10 @@ const NO_MEMORY: u8 = 6;
 /// The whole program: reads the words, of which the first is the program's name, runs the command, and gives the status to
 /// end with. `run` reads an event file from `src` and writes its commentary to `out`; `log` does the same, writes the log of
 /// its proofs to `out` and the commentary to `side`; `check` reads a log from `src`, and writes its claims and the verdict to
-/// `out`.
+/// `out`; `sample` writes the event file of a seed and a size to `out`, runs it, and writes the summary line of the run to
+/// `side`.
 ///
-/// - 0: the file was read to its end, and no form was refused or failed; the input is a right log.
+/// - 0: the file was read to its end, and no form was refused or failed; the input is a right log; the sample was run.
 /// - 1: the file was read to its end, and some form was refused or failed; the input is no right log.
 /// - 2: the words are not those of a command.
 /// - 3: the spelling of the file is wrong.
@@ -77,6 +87,11 @@ pub fn nqthm<S: Source, O: Sink, E: Sink>(
         → HasRun true (S.left src.old) (S.left src.new) (held_in (E.written side.old) (O.written out.old)) (held_in (E.written side.new) (O.written out.new)) result }
     ensures check { command_of (map string_bytes words.items) ≡ Some Command.Check
         → HasChecked (S.left src.old) (O.written out.old) (O.written out.new) result }
+    ensures sample { (seed size : ℕ) → command_of (map string_bytes words.items) ≡ Some (Command.Sample seed size) → result ≡ 0
+        → IsSampled seed size (O.written out.old) (O.written out.new) (E.written side.old) (E.written side.new) }
+    ensures sample_status { (seed size : ℕ) → command_of (map string_bytes words.items) ≡ Some (Command.Sample seed size)
+        → (result ≡ 0) ⊎ ((result ≡ 3) ⊎ ((result ≡ 5) ⊎ (result ≡ 6))) }
+    ensures unread { (seed size : ℕ) → command_of (map string_bytes words.items) ≡ Some (Command.Sample seed size) → src.new ≡ src.old }
     ensures quiet { (steps : ℕ) → command_of (map string_bytes words.items) ≡ Some (Command.Run steps) → side.new ≡ side.old }
     ensures quiet_check { command_of (map string_bytes words.items) ≡ Some Command.Check → side.new ≡ side.old }
 
@@ -90,6 +105,7 @@ pub fn nqthm<S: Source, O: Sink, E: Sink>(
         Ok(Command::Run(steps)) => run_status(alloc, src, out, side, false, steps),
         Ok(Command::Log(steps)) => run_status(alloc, src, side, out, true, steps),
         Ok(Command::Check) => checked_status(alloc, src, out),
+        Ok(Command::Sample(seed, size)) => sample_status(alloc, seed, size, out, side),
         Err(WordsFault::Refused) => refuse_words(side),
         Err(WordsFault::Memory) => NO_MEMORY,
     }
@@ -117,7 +133,7 @@ fn run_status<S: Source, O: Sink, L: Sink>(
     ensures range { result ≤ 7 }
     ensures not_words { result ≡ 2 → ⊥ }
 {
-    let mut prover = FirstPass::new();
+    let mut prover = Searcher::new();
     match run_events(alloc, src, comment, log, logging, &mut prover, steps) {
         Ok(ended) => ended.status(),
         Err(fault) => fault.status(),

@@ -112,6 +112,11 @@ fn each_form_has_its_report(rt: HostRuntime) -> Result<(), Fail> {
             b"1. PROVE-LEMMA A\n   Refused 9 NotYet PROVE-LEMMA.\n2. PROVE-LEMMA B\n   By TAUT.\n   Proved.\nForms 2, accepted 1, refused 1, failed 0, skipped 0.\n",
         ),
         (
+            b"(PROVE-LEMMA A1 NIL (EQUAL X Y))",
+            1,
+            b"1. PROVE-LEMMA A1\n   0. GOAL: (EQUAL X Y)\n   Failed, no induction.\nForms 1, accepted 0, refused 0, failed 1, skipped 0.\n",
+        ),
+        (
             b"(UNDO-BACK-THROUGH E) (TOGGLE K G T) (DCL (E))",
             1,
             b"1. UNDO-BACK-THROUGH E\n   Refused 30 NoSuchEvent E.\n2. TOGGLE K\n   Refused 30 NoSuchEvent G.\n3. DCL\n   Refused 21 BadShape form.\nForms 3, accepted 0, refused 3, failed 0, skipped 0.\n",
@@ -217,7 +222,7 @@ fn a_lemma_has_its_first_refusal(rt: HostRuntime) -> Result<(), Fail> {
         (
             b"A",
             b"(REWRITE) (IMPLIES P P)",
-            b"Refused 9 NotYet PROVE-LEMMA.\n",
+            b"Refused 50 NotRewrite.\n",
         ),
         (
             b"A",
@@ -356,6 +361,25 @@ fn a_failing_stream_leaves_whole_reports(rt: HostRuntime) -> Result<(), Fail> {
 }
 
 #[test]
+fn a_sample_is_written_and_run(rt: HostRuntime) -> Result<(), Fail> {
+    let given = Given {
+        words: &["nqthm", "sample", "1", "2"],
+        ..Given::run(b"")
+    };
+    let answered = answer_to(rt.alloc(), given)?;
+    assert_eq!(rt; answered.status, 0);
+    assert_eq!(rt;
+        answered.out.as_slice(),
+        b"(BOOT-STRAP NQTHM)\n(PROVE-LEMMA S1 NIL (IMPLIES (AND P Q) (OR Q R)))\n(DEFN S2 (X Y) (PLUS X (TIMES 83 Y)))\n".as_slice()
+    );
+    assert_eq!(rt;
+        answered.side.as_slice(),
+        b"Forms 3, accepted 3, refused 0, failed 0, skipped 0.\n".as_slice()
+    );
+    Ok(())
+}
+
+#[test]
 fn other_words_are_refused(rt: HostRuntime) -> Result<(), Fail> {
     for (words, failing_side, status) in [
         (["nqthm", "run", "--steps", "1"].as_slice(), 1, 0),
@@ -365,6 +389,10 @@ fn other_words_are_refused(rt: HostRuntime) -> Result<(), Fail> {
         (&["nqthm", "run", "--steps", "50000001"], 0, 2),
         (&["nqthm", "run", "--steps", "5", "--steps", "6"], 0, 2),
         (&["nqthm", "run", "more"], 0, 2),
+        (&["nqthm", "sample", "7"], 0, 2),
+        (&["nqthm", "sample", "7", "0"], 0, 2),
+        (&["nqthm", "sample", "1", "2001"], 0, 2),
+        (&["nqthm", "sample", "18446744073709551616", "2"], 0, 2),
         (&["nqthm", "frob"], 0, 2),
         (&["nqthm"], 0, 2),
         (&[], 0, 2),

@@ -1,4 +1,4 @@
-use Rattle.nq_block.proofs.OpenLaws.{log_begins_law, block_follows_law, log_ends_law, built_log_ends_law}
+use Rattle.nq_block.proofs.OpenLaws.{log_begins_law, block_follows_law, log_ends_law}
 use Rattle.nq_block.proofs.open_log.Goals as goal
 
 pub returns-clause-begins : goal.returns-clause-begins
@@ -9,6 +9,3 @@ returns-clause-follows c = block_follows_law
 
 pub returns-clause-ends : goal.returns-clause-ends
 returns-clause-ends c = log_ends_law
-
-pub returns-clause-built : goal.returns-clause-built
-returns-clause-built c = built_log_ends_law

@@ -98,8 +98,8 @@ fn instances_of_an_axiom_are_proved(rt: HostRuntime) -> Result<(), Fail> {
         ("~$X$Q", "~$$Q$X"),
         // a numeral above 0 is a call of ADD1
         ("~+XX", "~43"),
-        ("$++X", "$2"),
-        ("$2", "$2"),
+        ("~P++X", "~Q2"),
+        ("~P2", "~Q2"),
         (">XQ", ">PQ"),
     ] {
         let way = way_of(&rt, rt.alloc(), axiom, goal)?;
@@ -114,9 +114,9 @@ fn goals_that_are_no_instances_are_not_proved(rt: HostRuntime) -> Result<(), Fai
         ("$X", "!P"),
         ("$$X", "$P"),
         ("~XX", "~P$P"),
-        ("~+XX", "~33"),
-        ("$+++X", "$2"),
-        ("$2", "$3"),
+        ("~+XX", "~42"),
+        ("~P+++X", "~Q2"),
+        ("~P2", "~Q3"),
     ] {
         let way = way_of(&rt, rt.alloc(), axiom, goal)?;
         assert!(rt; way.is_none(), "{axiom} {goal}");
@@ -124,10 +124,20 @@ fn goals_that_are_no_instances_are_not_proved(rt: HostRuntime) -> Result<(), Fai
     Ok(())
 }
 
+// Each goal is an instance of its axiom.
 #[test]
-fn a_tautology_is_proved_as_such_though_it_is_an_instance(rt: HostRuntime) -> Result<(), Fail> {
-    let way = way_of(&rt, rt.alloc(), ">XQ", ">$P$P")?;
-    assert!(rt; way == Some(Quick::Taut));
+fn the_first_of_the_ways_is_taken(rt: HostRuntime) -> Result<(), Fail> {
+    for (axiom, goal, first) in [
+        (">XQ", ">$P$P", Quick::Taut),
+        (">XQ", ">11", Quick::Taut),
+        ("~XP", "~+23", Quick::Eval),
+        ("$X", "$2", Quick::Eval),
+        // its value is F
+        ("~XP", "~+22", Quick::Inst),
+    ] {
+        let way = way_of(&rt, rt.alloc(), axiom, goal)?;
+        assert!(rt; way == Some(first), "{axiom} {goal}");
+    }
     Ok(())
 }
 

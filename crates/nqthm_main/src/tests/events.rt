@@ -80,12 +80,7 @@ fn an_event_has_its_first_refusal(rt: HostRuntime) -> Result<(), Fail> {
             b"(REWRITE) T",
             b"Refused 32 NameInUse D.",
         ),
-        (
-            b"ADD-AXIOM",
-            b"A",
-            b"(REWRITE) (D X)",
-            b"Refused 9 NotYet ADD-AXIOM.",
-        ),
+        (b"ADD-AXIOM", b"A", b"(REWRITE) (D X)", b"Accepted."),
         (
             b"ADD-AXIOM",
             b"A",
@@ -180,11 +175,11 @@ fn an_instance_of_an_axiom_or_lemma_is_proved(rt: HostRuntime) -> Result<(), Fai
         (b"(EQUAL (DIFFERENCE 5 Z) (G 4 Z))", b"By INST.\n   Proved."),
         (
             b"(EQUAL (DIFFERENCE 5 Z) (G 5 Z))",
-            b"Refused 9 NotYet PROVE-LEMMA.",
+            b"0. GOAL: (EQUAL (DIFFERENCE 5 Z) (G 5 Z))\n   Failed, no induction.",
         ),
         (
             b"(EQUAL (DIFFERENCE 0 Z) (G 0 Z))",
-            b"Refused 9 NotYet PROVE-LEMMA.",
+            b"0. GOAL: (EQUAL (DIFFERENCE 0 Z) (G 0 Z))\n   Failed, no induction.",
         ),
         // a tautology comes first
         (b"(IMPLIES (G Y Y) (G Y Y))", b"By TAUT.\n   Proved."),
@@ -205,7 +200,7 @@ fn an_undone_axiom_proves_nothing_more(rt: HostRuntime) -> Result<(), Fail> {
     let text =
         b"(DCL E (X))(ADD-AXIOM A NIL (E X))(PROVE-LEMMA L NIL (E (CAR Y)))(UNDO-BACK-THROUGH L)(PROVE-LEMMA M NIL (E 3))(UNDO-BACK-THROUGH A)(PROVE-LEMMA L NIL (E (CAR Y)))(PROVE-LEMMA M NIL (E Y))";
     let want =
-        b"1. DCL E\n   Accepted.\n2. ADD-AXIOM A\n   Accepted.\n3. PROVE-LEMMA L\n   By INST.\n   Proved.\n4. UNDO-BACK-THROUGH L\n   Undone 1.\n5. PROVE-LEMMA M\n   By INST.\n   Proved.\n6. UNDO-BACK-THROUGH A\n   Undone 2.\n7. PROVE-LEMMA L\n   Refused 9 NotYet PROVE-LEMMA.\n8. PROVE-LEMMA M\n   Refused 9 NotYet PROVE-LEMMA.\nForms 8, accepted 6, refused 2, failed 0, skipped 0.\n".as_slice();
+        b"1. DCL E\n   Accepted.\n2. ADD-AXIOM A\n   Accepted.\n3. PROVE-LEMMA L\n   By INST.\n   Proved.\n4. UNDO-BACK-THROUGH L\n   Undone 1.\n5. PROVE-LEMMA M\n   By INST.\n   Proved.\n6. UNDO-BACK-THROUGH A\n   Undone 2.\n7. PROVE-LEMMA L\n   Refused 9 NotYet PROVE-LEMMA.\n8. PROVE-LEMMA M\n   0. GOAL: (E Y)\n   Failed, no induction.\nForms 8, accepted 6, refused 1, failed 1, skipped 0.\n".as_slice();
     let answered = answer_to(rt.alloc(), Given::run(text.as_slice()))?;
     assert_eq!(rt; answered.out.as_slice(), want);
     Ok(())

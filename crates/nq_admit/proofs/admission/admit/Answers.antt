@@ -25,16 +25,7 @@ returns-then-past_ground-ge-EVENT_LIMIT-clause-answer c =
     left (goal.at.returns-then-past_ground-ge-EVENT_LIMIT-clause-answer c).After-past_ground ∙
     no_room c.args.bank.now c.args.history.now (subst (λ es. 10000 ≤ length es) c.past_ground.ensures c.if-past_ground-ge-EVENT_LIMIT.true)
 
-pub returns-then-mentions-clause-answer : goal.returns-then-mentions-clause-answer
-returns-then-mentions-clause-answer c = (
-  left (goal.at.returns-then-mentions-clause-answer c).After-past_ground ∙
-      has_room c.args.bank.now c.args.history.now (subst (λ es. length es < 10000) c.past_ground.ensures c.if-past_ground-ge-EVENT_LIMIT.false),
-  sym c.if-mentions.ensures,
-)
-
 pub returns-clause-answer : goal.returns-clause-answer
-returns-clause-answer c = (
-  left (goal.at.returns-clause-answer c).After-past_ground ∙
-      has_room c.args.bank.now c.args.history.now (subst (λ es. length es < 10000) c.past_ground.ensures c.if-past_ground-ge-EVENT_LIMIT.false),
-  sym c.if-mentions.ensures,
-)
+returns-clause-answer c =
+    left (goal.at.returns-clause-answer c).After-past_ground ∙
+    has_room c.args.bank.now c.args.history.now (subst (λ es. length es < 10000) c.past_ground.ensures c.if-past_ground-ge-EVENT_LIMIT.false)

@@ -5,6 +5,7 @@ use Rattle.nq_kernel.specs.declared.work.Work.{Work}
 use Rattle.nq_kernel.specs.Growing.{WorkGrows}
 use Rattle.nq_kernel.proofs.GrowingLemmas.{WorkGrows-refl, WorkGrows-trans}
 use Rattle.nq_lines.specs.Lines.{LineHasOnly}
+use Rattle.nq_lines.proofs.FactLemmas.{own_terms_grown}
 use Rattle.nq_simplify.specs.declared.steps.Turn.{Turn}
 use Rattle.nq_simplify.specs.declared.steps.Split.{Split}
 use Rattle.nq_simplify.specs.Simplified.{AreTermsIn, IsTurn, IsDivided, IsSimplified}
@@ -53,7 +54,7 @@ simplify_goal-requires g t c =
     let turn : Turn = c.in-Turned.turn in
     let it : IsTurn h w1 (terms_at w0.bank c.args.goal.now) turn = outcome_turned h w1 (terms_at w0.bank c.args.goal.now) c.in_ok-outcome.outcome c.in_ok-outcome.ensures.outcome turn c.in-Turned.is in
     let falls : c.args.rounds - 1 < t = omega (arith, c.decreases) in
-    λ κs within. (falls, (within, (c.next_outcome.ensures.grows.stands, (basis_grown h w0 w1 c.args.basis.now c.requires.stands c.next_outcome.ensures.grows c.requires.basis, subst (AreTermsIn h w1) (sym c.as_slice.ensures.value) it.next))))
+    λ κs within. (falls, (within, (c.next_outcome.ensures.grows.stands, (own_terms_grown h w0 w1 c.next_outcome.ensures.grows c.requires.stands c.requires.ready, (basis_grown h w0 w1 c.args.basis.now c.requires.stands c.next_outcome.ensures.grows c.requires.basis, subst (AreTermsIn h w1) (sym c.as_slice.ensures.value) it.next)))))
 
 pub returns-in_err-rest-in-Turned-clause-grows : goal.returns-in_err-rest-in-Turned-clause-grows
 returns-in_err-rest-in-Turned-clause-grows g t c = WorkGrows-trans c.args.history.now c.args.work.now c.next_outcome.new.work c.simplify_goal.new.work c.next_outcome.ensures.grows c.simplify_goal.ensures.grows
@@ -96,7 +97,7 @@ simplify_goal-requires-in-Divided g t c =
     let split : Split = c.in-Divided.split in
     let it : IsDivided h w1 (terms_at w0.bank c.args.goal.now) split = outcome_divided h w1 (terms_at w0.bank c.args.goal.now) c.in_ok-outcome.outcome c.in_ok-outcome.ensures.outcome split c.in-Divided.is in
     let falls : c.args.rounds - 1 < t = omega (arith, c.decreases) in
-    λ κs within. (falls, (within, (c.next_outcome.ensures.grows.stands, (basis_grown h w0 w1 c.args.basis.now c.requires.stands c.next_outcome.ensures.grows c.requires.basis, subst (AreTermsIn h w1) (sym c.as_slice-in-Divided.ensures.value) it.with_test.next))))
+    λ κs within. (falls, (within, (c.next_outcome.ensures.grows.stands, (own_terms_grown h w0 w1 c.next_outcome.ensures.grows c.requires.stands c.requires.ready, (basis_grown h w0 w1 c.args.basis.now c.requires.stands c.next_outcome.ensures.grows c.requires.basis, subst (AreTermsIn h w1) (sym c.as_slice-in-Divided.ensures.value) it.with_test.next)))))
 
 pub returns-in_err-with_test-in-Divided-clause-grows : goal.returns-in_err-with_test-in-Divided-clause-grows
 returns-in_err-with_test-in-Divided-clause-grows g t c = WorkGrows-trans c.args.history.now c.args.work.now c.next_outcome.new.work c.simplify_goal-in-Divided.new.work c.next_outcome.ensures.grows c.simplify_goal-in-Divided.ensures.grows
@@ -112,7 +113,7 @@ simplify_goal-requires-in-Divided-2 g t c =
     let g02 : WorkGrows h w0 w2 = WorkGrows-trans h w0 w1 w2 c.next_outcome.ensures.grows c.simplify_goal-in-Divided.ensures.grows in
     let falls : c.args.rounds - 1 < t = omega (arith, c.decreases) in
     let next : AreTermsIn h w2 split.without_test.next.items = goal_in h w1 w2 split.without_test.next.items c.next_outcome.ensures.grows.stands c.simplify_goal-in-Divided.ensures.grows it.without_test.next in
-    λ κs within. (falls, (within, (c.simplify_goal-in-Divided.ensures.grows.stands, (basis_grown h w0 w2 c.args.basis.now c.requires.stands g02 c.requires.basis, subst (AreTermsIn h w2) (sym c.as_slice-in-Divided-2.ensures.value) next))))
+    λ κs within. (falls, (within, (c.simplify_goal-in-Divided.ensures.grows.stands, (own_terms_grown h w0 w2 g02 c.requires.stands c.requires.ready, (basis_grown h w0 w2 c.args.basis.now c.requires.stands g02 c.requires.basis, subst (AreTermsIn h w2) (sym c.as_slice-in-Divided-2.ensures.value) next)))))
 
 pub returns-in_err-without_test-in-Divided-clause-grows : goal.returns-in_err-without_test-in-Divided-clause-grows
 returns-in_err-without_test-in-Divided-clause-grows g t c =

@@ -1,12 +1,13 @@
 use Rattle.nq_kernel.specs.declared.work.Work.{Work}
 use Rattle.nq_kernel.proofs.GrowingLemmas.{WorkGrows-refl, WorkGrows-trans}
+use Rattle.nq_lines.proofs.FactLemmas.{own_terms_grown}
 use Rattle.nq_simplify.proofs.BasisLemmas.{basis_grown}
 use Rattle.nq_simplify.proofs.SimplifiedLemmas.{goal_in}
 use Rattle.nq_simplify.proofs.OutcomeLemmas.{outcome_before}
 use Rattle.nq_simplify.proofs.turning.rewrite_first.Goals as goal
 
 pub loop-at-init : goal.loop-at-init
-loop-at-init g c = record { grows = WorkGrows-refl c.args.history.now c.args.work.now c.requires.stands; basis = c.requires.basis; terms = c.requires.goal }
+loop-at-init g c = record { grows = WorkGrows-refl c.args.history.now c.args.work.now c.requires.stands; basis = c.requires.basis; terms = c.requires.goal; ready = c.requires.ready }
 
 pub loop-at-preserved : goal.loop-at-preserved
 loop-at-preserved g c =
@@ -18,6 +19,7 @@ loop-at-preserved g c =
       grows = WorkGrows-trans h w0 w1 w2 c.loop-at.invariant.grows c.rewrite_at.ensures.grows;
       basis = basis_grown h w1 w2 c.args.basis.now c.loop-at.invariant.grows.stands c.rewrite_at.ensures.grows c.loop-at.invariant.basis;
       terms = goal_in h w1 w2 c.args.goal.now c.loop-at.invariant.grows.stands c.rewrite_at.ensures.grows c.loop-at.invariant.terms;
+      ready = own_terms_grown h w1 w2 c.rewrite_at.ensures.grows c.loop-at.invariant.grows.stands c.loop-at.invariant.ready;
     }
 
 pub returns-in_err-here-clause-grows : goal.returns-in_err-here-clause-grows

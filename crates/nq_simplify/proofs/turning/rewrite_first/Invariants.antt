@@ -1,5 +1,7 @@
 -- Work has only grown.
+use Rattle.nq_history.specs.Events.{events_at}
 use Rattle.nq_kernel.specs.Growing.{WorkGrows}
+use Rattle.nq_lines.specs.OwnTerms.{HasOwnTerms}
 use Rattle.nq_simplify.specs.Simplified.{AreTermsIn, BasisStands}
 use Rattle.nq_simplify.proofs.turning.rewrite_first.Given as goal
 
@@ -9,4 +11,5 @@ invariant-loop-at g l =
       grows : WorkGrows l.fn.history l.fn.work l.work;
       basis : BasisStands l.fn.history l.work l.fn.basis;
       terms : AreTermsIn l.fn.history l.work l.fn.goal;
+      ready : HasOwnTerms (events_at l.work.bank l.fn.history);
     }

@@ -1,4 +1,4 @@
-use Rattle.std.proofs.Common.{◌≡◌, ap, ◌∙◌, subst, sym, take, List, Some}
+use Rattle.std.proofs.Common.{◌≡◌, ap, ◌∙◌, subst, sym, take, List}
 use Rattle.std.proofs.lemmas.Result.{on_ok_weaker}
 use Rattle.std.proofs.lemmas.List.{take_all}
 use Rattle.nq_bank.specs.Content.{term_at}

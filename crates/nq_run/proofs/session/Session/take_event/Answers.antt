@@ -4,18 +4,16 @@ use Rattle.nq_sexp.specs.Tree.{tree}
 use Rattle.nq_bank.specs.Content.{term_at, text_at}
 use Rattle.nq_bank.specs.Shells.{texts_at}
 use Rattle.nq_bank.specs.declared.node.Sym.{Sym}
-use Rattle.nq_history.specs.declared.entry.Class.{Class}
-use Rattle.nq_history.specs.Events.{class_of}
 use Rattle.nq_comment.specs.Reports as answer
 use Rattle.nq_events.specs.Events as model
-use Rattle.nq_event.specs.EventsAt.{event_at, hints_at, measure_at}
+use Rattle.nq_event.specs.EventsAt.{event_at, measure_at}
 use Rattle.nq_event.specs.declared.event.Event.{Event}
 use Rattle.nq_event.specs.declared.event.Measure.{Measure}
 use Rattle.nq_run.specs.HistoryView.{history_of}
 use Rattle.nq_run.specs.Sessions.{TakesEvent}
 use Rattle.nq_spelling.specs.SpelledEvents.{IsSpelledEvent}
 use Rattle.nq_run.proofs.HintLemmas.{hints_in}
-use Rattle.nq_run.proofs.TakingLemmas.{untaken_as}
+use Rattle.nq_run.proofs.TakingLemmas.{passed_answered, untaken_as}
 use Rattle.nq_run.proofs.session.Session.take_event.Goals as goal
 
 pub prove_lemma-requires-clause-hint_terms : goal.prove_lemma-requires-clause-hint_terms
@@ -53,22 +51,13 @@ returns-in-Defn-clause-takes g c =
 
 pub returns-in-AddAxiom-clause-takes : goal.returns-in-AddAxiom-clause-takes
 returns-in-AddAxiom-clause-takes g c =
-    let bank = c.args.self.bank in
     let form = tree c.args.given.form.now in
-    let here = subst (λ (classes : List Class). IfOk c.add_axiom.result (TakesEvent (history_of c.args.self) form (model.AddAxiom (text_at bank c.in-AddAxiom.name) (map class_of classes) (term_at bank c.in-AddAxiom.axiom)) c.args.given.logging))
-    c.as_slice-in-AddAxiom.ensures.value c.add_axiom.ensures.taken in
-    subst (λ (event : Event). IfOk c.add_axiom.result (TakesEvent (history_of c.args.self) form (event_at bank event) c.args.given.logging)) (sym c.in-AddAxiom.is) here
+    subst (λ (event : Event). IfOk c.add_axiom.result (TakesEvent (history_of c.args.self) form (event_at c.args.self.bank event) c.args.given.logging)) (sym c.in-AddAxiom.is) c.add_axiom.ensures.taken
 
 pub returns-in-ProveLemma-clause-takes : goal.returns-in-ProveLemma-clause-takes
 returns-in-ProveLemma-clause-takes g c =
-    let bank = c.args.self.bank in
     let form = tree c.args.given.form.now in
-    let lemma = c.in-ProveLemma in
-    let hints : model.Hints = hints_at bank lemma.hints in
-    let here = subst (λ (classes : List Class).
-    IfOk c.prove_lemma.result (TakesEvent (history_of c.args.self) form (model.ProveLemma (text_at bank lemma.name) (map class_of classes) (term_at bank lemma.goal) hints) c.args.given.logging))
-    c.as_slice-in-ProveLemma.ensures.value (c.prove_lemma.ensures.taken hints) in
-    subst (λ (event : Event). IfOk c.prove_lemma.result (TakesEvent (history_of c.args.self) form (event_at bank event) c.args.given.logging)) (sym lemma.is) here
+    subst (λ (event : Event). IfOk c.prove_lemma.result (TakesEvent (history_of c.args.self) form (event_at c.args.self.bank event) c.args.given.logging)) (sym c.in-ProveLemma.is) c.prove_lemma.ensures.taken
 
 pub returns-in-Toggle-clause-takes : goal.returns-in-Toggle-clause-takes
 returns-in-Toggle-clause-takes g c =
@@ -84,7 +73,7 @@ pub returns-in-Skipped-clause-takes : goal.returns-in-Skipped-clause-takes
 returns-in-Skipped-clause-takes g c =
     let form = tree c.args.given.form.now in
     subst (λ (event : Event). TakesEvent (history_of c.args.self) form (event_at c.args.self.bank event) c.args.given.logging c.untaken.result) (sym c.in-Skipped.is)
-    (untaken_as c.args.self form model.Skipped c.args.given.logging answer.Skipped c.untaken.result c.untaken.ensures refl refl)
+    (untaken_as c.args.self form model.Skipped c.args.given.logging answer.Skipped c.untaken.result c.untaken.ensures refl (passed_answered (history_of c.args.self) form))
 
 pub returns-in-Skipped-clause-learnt : goal.returns-in-Skipped-clause-learnt
 returns-in-Skipped-clause-learnt g c = subst (g.P.Prover.has_learnt c.args.prover.now) (sym c.untaken.ensures.entries) c.requires.learnt

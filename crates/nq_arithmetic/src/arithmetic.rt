@@ -1,0 +1,197 @@
+//! The line of a goal.
+ghost use Rattle.std.specs.Prelude.{◌≡◌, All, IfOk, IfSome, Err};
+ghost use Rattle.nq_bank.specs.Content.{terms_at};
+ghost use Rattle.nq_kernel.specs.Growing.{LineStands, WorkGrows, WorkStands};
+ghost use Rattle.nq_lines.specs.Lines.{IsTermIn, LineHasOnly};
+ghost use Rattle.nq_arithmetic.specs.Claims.{AreOperandsIn, IsAssumptionIn};
+
+use crate::assumptions::{Assumption, literals_with};
+use crate::checking::checked;
+use crate::gathering::facts_of;
+use crate::guards::{are_met, fact_line};
+use crate::reading::{Operands, is_call_of, operands_of, terms_in};
+use crate::refuting::refuted;
+use crate::resolving::resolved;
+use crate::templates::COMPARISON;
+use nq_bank::{TermId, ground};
+use nq_history::{Hints, History};
+use nq_kernel::{Stop, Work};
+
+/// A line without the facts that it rests on, where it has only literals of the goal then.
+fn finished(
+    work: &mut Work,
+    history: &History,
+    goal: &[TermId],
+    assumptions: &[Assumption],
+    line: u64,
+) -> Result<Option<u64>, Stop>
+    requires stands { WorkStands history.now work.old }
+    requires goal { All (IsTermIn history.now work.old) goal.now }
+    requires assumptions { All (IsAssumptionIn history.now work.old) assumptions.now }
+    requires line { LineStands work.old line }
+    ensures line { IfOk result (λ found. IfSome found (λ n. LineHasOnly work.new n (terms_at work.old.bank goal.now))) }
+    ensures grows { WorkGrows history.now work.old work.new }
+    ensures out { result ≡ Err Stop.OutOfSteps → work.new.counter.used ≡ work.new.counter.limit }
+{
+    let last = resolved(work, history, goal, assumptions, line)?;
+    Ok(checked(work, history, goal, last))
+}
+
+/// The line of a goal with the equation of two numbers, neither of which is below the other.
+fn by_comparison(
+    work: &mut Work,
+    history: &History,
+    goal: &[TermId],
+    assumptions: &[Assumption],
+    at: Operands,
+) -> Result<Option<u64>, Stop>
+    requires stands { WorkStands history.now work.old }
+    requires goal { All (IsTermIn history.now work.old) goal.now }
+    requires assumptions { All (IsAssumptionIn history.now work.old) assumptions.now }
+    requires at { AreOperandsIn history.now work.old at }
+    ensures line { IfOk result (λ found. IfSome found (λ n. LineHasOnly work.new n (terms_at work.old.bank goal.now))) }
+    ensures grows { WorkGrows history.now work.old work.new }
+    ensures out { result ≡ Err Stop.OutOfSteps → work.new.counter.used ≡ work.new.counter.limit }
+{
+    let literals = literals_with(work, history, goal, assumptions, assumptions.len())?;
+    if are_met(
+        work,
+        history,
+        goal,
+        literals.as_slice(),
+        COMPARISON.guards,
+        at,
+    )? {
+        let line = fact_line(work, history, goal, literals.as_slice(), COMPARISON, at)?;
+        finished(work, history, goal, assumptions, line)
+    } else {
+        Ok(None)
+    }
+}
+
+/// The same, of a literal, if it is an equation.
+fn by_literal(
+    work: &mut Work,
+    history: &History,
+    goal: &[TermId],
+    assumptions: &[Assumption],
+    t: TermId,
+) -> Result<Option<u64>, Stop>
+    requires stands { WorkStands history.now work.old }
+    requires goal { All (IsTermIn history.now work.old) goal.now }
+    requires assumptions { All (IsAssumptionIn history.now work.old) assumptions.now }
+    requires literal { IsTermIn history.now work.old t }
+    ensures line { IfOk result (λ found. IfSome found (λ n. LineHasOnly work.new n (terms_at work.old.bank goal.now))) }
+    ensures grows { WorkGrows history.now work.old work.new }
+    ensures out { result ≡ Err Stop.OutOfSteps → work.new.counter.used ≡ work.new.counter.limit }
+{
+    if !is_call_of(&work.bank, t, ground::EQUAL) {
+        return Ok(None);
+    }
+    match operands_of(work, history, t) {
+        Some(at) => by_comparison(work, history, goal, assumptions, at),
+        None => Ok(None),
+    }
+}
+
+/// A line that was found, or else the one by a literal.
+fn or_by_literal(
+    work: &mut Work,
+    history: &History,
+    goal: &[TermId],
+    assumptions: &[Assumption],
+    found: Option<u64>,
+    t: TermId,
+) -> Result<Option<u64>, Stop>
+    requires stands { WorkStands history.now work.old }
+    requires goal { All (IsTermIn history.now work.old) goal.now }
+    requires assumptions { All (IsAssumptionIn history.now work.old) assumptions.now }
+    requires found { IfSome found (λ n. LineHasOnly work.old n (terms_at work.old.bank goal.now)) }
+    requires literal { IsTermIn history.now work.old t }
+    ensures line { IfOk result (λ found. IfSome found (λ n. LineHasOnly work.new n (terms_at work.old.bank goal.now))) }
+    ensures grows { WorkGrows history.now work.old work.new }
+    ensures out { result ≡ Err Stop.OutOfSteps → work.new.counter.used ≡ work.new.counter.limit }
+{
+    match found {
+        Some(line) => Ok(Some(line)),
+        None => by_literal(work, history, goal, assumptions, t),
+    }
+}
+
+/// The line of a goal by one of its equations.
+fn by_equations(
+    work: &mut Work,
+    history: &History,
+    goal: &[TermId],
+    assumptions: &[Assumption],
+) -> Result<Option<u64>, Stop>
+    requires stands { WorkStands history.now work.old }
+    requires goal { All (IsTermIn history.now work.old) goal.now }
+    requires assumptions { All (IsAssumptionIn history.now work.old) assumptions.now }
+    ensures line { IfOk result (λ found. IfSome found (λ n. LineHasOnly work.new n (terms_at work.old.bank goal.now))) }
+    ensures grows { WorkGrows history.now work.old work.new }
+    ensures out { result ≡ Err Stop.OutOfSteps → work.new.counter.used ≡ work.new.counter.limit }
+{
+    let mut found = None;
+    for t in goal {
+        found = or_by_literal(work, history, goal, assumptions, found, *t)?;
+    }
+    Ok(found)
+}
+
+/// The line of a goal with these facts.
+fn with_facts(
+    work: &mut Work,
+    history: &History,
+    goal: &[TermId],
+    assumptions: &[Assumption],
+) -> Result<Option<u64>, Stop>
+    requires stands { WorkStands history.now work.old }
+    requires goal { All (IsTermIn history.now work.old) goal.now }
+    requires assumptions { All (IsAssumptionIn history.now work.old) assumptions.now }
+    ensures line { IfOk result (λ found. IfSome found (λ n. LineHasOnly work.new n (terms_at work.old.bank goal.now))) }
+    ensures grows { WorkGrows history.now work.old work.new }
+    ensures out { result ≡ Err Stop.OutOfSteps → work.new.counter.used ≡ work.new.counter.limit }
+{
+    let literals = literals_with(work, history, goal, assumptions, assumptions.len())?;
+    match refuted(work, history, literals.as_slice())? {
+        Some(line) => finished(work, history, goal, assumptions, line),
+        None => by_equations(work, history, goal, assumptions),
+    }
+}
+
+/// The line of a goal with the facts that are found for it.
+fn by_facts(work: &mut Work, history: &History, goal: &[TermId]) -> Result<Option<u64>, Stop>
+    requires stands { WorkStands history.now work.old }
+    requires goal { All (IsTermIn history.now work.old) goal.now }
+    ensures line { IfOk result (λ found. IfSome found (λ n. LineHasOnly work.new n (terms_at work.old.bank goal.now))) }
+    ensures grows { WorkGrows history.now work.old work.new }
+    ensures out { result ≡ Err Stop.OutOfSteps → work.new.counter.used ≡ work.new.counter.limit }
+{
+    let terms = terms_in(work, history, goal)?;
+    let assumptions = facts_of(work, history, goal, terms.as_slice())?;
+    with_facts(work, history, goal, assumptions.as_slice())
+}
+
+/// A line that has only literals of a goal, by linear arithmetic: of its literals as they are, together with facts about the
+/// terms in it, and for an equation of two numbers by comparing them. None is found under NO-BUILT-IN-ARITH.
+pub fn arithmetic_line(
+    work: &mut Work,
+    history: &History,
+    hints: &Hints,
+    goal: &[TermId],
+) -> Result<Option<u64>, Stop>
+    requires stands { WorkStands history.now work.old }
+    requires goal { All (IsTermIn history.now work.old) goal.now }
+    ensures line { IfOk result (λ found. IfSome found (λ n. LineHasOnly work.new n (terms_at work.old.bank goal.now))) }
+    ensures grows { WorkGrows history.now work.old work.new }
+    ensures out { result ≡ Err Stop.OutOfSteps → work.new.counter.used ≡ work.new.counter.limit }
+{
+    if hints.no_arith {
+        return Ok(None);
+    }
+    match refuted(work, history, goal)? {
+        Some(line) => Ok(checked(work, history, goal, line)),
+        None => by_facts(work, history, goal),
+    }
+}

@@ -1,0 +1,139 @@
+//! The lines of laws.
+ghost use Rattle.std.specs.Prelude.{◌≡◌, IfOk, Err};
+ghost use Rattle.nq_kernel.specs.Growing.{LineHolds, LineStands, WorkGrows, WorkStands};
+ghost use Rattle.nq_lines.specs.Instances.{ArePairsIn};
+ghost use Rattle.nq_replay.specs.LawClauses.{size_falls_clause};
+ghost use Rattle.nq_replay.specs.Uncounted.{GrowsUncounted};
+ghost use Rattle.nq_arithmetic.specs.Claims.{AreOperandsIn};
+
+use crate::laws::{InductiveLaw, PlainLaw, inductive_table, plain_table};
+use crate::reading::Operands;
+use crate::template::ArithmeticLaw;
+use nq_clause::Pair;
+use nq_history::History;
+use nq_kernel::{Stop, Work};
+use nq_lines::symbol;
+use nq_replay::{first_is_smaller, replay, rest_is_smaller, size_falls};
+use std::alloc::AllocError;
+
+/// Adds the line of a law from axioms alone.
+fn plain_line(work: &mut Work, history: &History, law: PlainLaw) -> Result<u64, AllocError>
+    requires stands { WorkStands history.now work.old }
+    ensures line { IfOk result (λ n. LineStands work.new n) }
+    ensures grows { GrowsUncounted history.now work.old work.new }
+{
+    let table = plain_table(law);
+    replay(work, history, table, &[])
+}
+
+/// Adds the line of a law by induction, after the line that a size falls.
+fn inductive_line_after(
+    work: &mut Work,
+    history: &History,
+    law: InductiveLaw,
+    falls: u64,
+) -> Result<u64, AllocError>
+    requires stands { WorkStands history.now work.old }
+    requires falls { LineHolds work.old falls size_falls_clause }
+    ensures line { IfOk result (λ n. LineStands work.new n) }
+    ensures grows { GrowsUncounted history.now work.old work.new }
+{
+    let table = inductive_table(law);
+    replay(work, history, table, &[falls])
+}
+
+/// Adds the line of a law by induction.
+fn inductive_line(work: &mut Work, history: &History, law: InductiveLaw) -> Result<u64, AllocError>
+    requires stands { WorkStands history.now work.old }
+    ensures line { IfOk result (λ n. LineStands work.new n) }
+    ensures grows { GrowsUncounted history.now work.old work.new }
+{
+    let falls = size_falls(work, history)?;
+    inductive_line_after(work, history, law, falls)
+}
+
+/// Adds the line of a law, uncounted.
+fn uncounted_line(work: &mut Work, history: &History, law: ArithmeticLaw) -> Result<u64, AllocError>
+    requires stands { WorkStands history.now work.old }
+    ensures line { IfOk result (λ n. LineStands work.new n) }
+    ensures grows { GrowsUncounted history.now work.old work.new }
+{
+    match law {
+        ArithmeticLaw::Plain(plain) => plain_line(work, history, plain),
+        ArithmeticLaw::Inductive(inductive) => inductive_line(work, history, inductive),
+        ArithmeticLaw::FirstIsSmaller => first_is_smaller(work, history),
+        ArithmeticLaw::RestIsSmaller => rest_is_smaller(work, history),
+    }
+}
+
+/// Adds the line of a law.
+fn law_line(work: &mut Work, history: &History, law: ArithmeticLaw) -> Result<u64, Stop>
+    requires stands { WorkStands history.now work.old }
+    ensures line { IfOk result (λ n. LineStands work.new n) }
+    ensures grows { WorkGrows history.now work.old work.new }
+    ensures memory { result ≡ Err Stop.OutOfSteps → ⊥ }
+{
+    match uncounted_line(work, history, law) {
+        Ok(line) => Ok(line),
+        Err(_) => Err(Stop::Memory),
+    }
+}
+
+/// The pairs of X and Y and two terms.
+fn pairs_of(work: &mut Work, history: &History, at: Operands) -> Result<Vec<Pair>, Stop>
+    requires stands { WorkStands history.now work.old }
+    requires at { AreOperandsIn history.now work.old at }
+    ensures pairs { IfOk result (λ ps. ArePairsIn history.now work.new ps.items) }
+    ensures grows { WorkGrows history.now work.old work.new }
+    ensures memory { result ≡ Err Stop.OutOfSteps → ⊥ }
+{
+    let x = symbol(work, history, b"X")?;
+    let y = symbol(work, history, b"Y")?;
+    let z = symbol(work, history, b"Z")?;
+    let first = Pair {
+        variable: x,
+        term: at.first,
+    };
+    let second = Pair {
+        variable: y,
+        term: at.second,
+    };
+    let third = Pair {
+        variable: z,
+        term: at.second,
+    };
+    match vec![in work.bank.alloc(); first, second, third] {
+        Ok(pairs) => Ok(pairs),
+        Err(_) => Err(Stop::Memory),
+    }
+}
+
+/// Adds an instance of a line.
+fn instance_of(work: &mut Work, history: &History, line: u64, pairs: Vec<Pair>) -> Result<u64, Stop>
+    requires stands { WorkStands history.now work.old }
+    requires line { LineStands work.old line }
+    requires pairs { ArePairsIn history.now work.old pairs.items }
+    ensures line { IfOk result (λ n. LineStands work.new n) }
+    ensures grows { WorkGrows history.now work.old work.new }
+    ensures out { result ≡ Err Stop.OutOfSteps → work.new.counter.used ≡ work.new.counter.limit }
+{
+    work.instance(history, line, pairs)
+}
+
+/// Adds the line of a law, with two terms for X and Y.
+pub fn law_at(
+    work: &mut Work,
+    history: &History,
+    law: ArithmeticLaw,
+    at: Operands,
+) -> Result<u64, Stop>
+    requires stands { WorkStands history.now work.old }
+    requires at { AreOperandsIn history.now work.old at }
+    ensures line { IfOk result (λ n. LineStands work.new n) }
+    ensures grows { WorkGrows history.now work.old work.new }
+    ensures out { result ≡ Err Stop.OutOfSteps → work.new.counter.used ≡ work.new.counter.limit }
+{
+    let pairs = pairs_of(work, history, at)?;
+    let line = law_line(work, history, law)?;
+    instance_of(work, history, line, pairs)
+}

@@ -1,0 +1,104 @@
+//! Terms that are numbers by the functions that make them.
+ghost use Rattle.std.specs.Prelude.{◌≡◌, IfOk, IfSome, Err};
+ghost use Rattle.nq_bank.specs.Content.{Stands};
+ghost use Rattle.nq_kernel.specs.Growing.{LineStands, WorkGrows, WorkStands};
+ghost use Rattle.nq_lines.specs.Lines.{IsTermIn};
+ghost use Rattle.nq_arithmetic.specs.Claims.{AreOperandsIn};
+
+use crate::laws::{InductiveLaw, PlainLaw};
+use crate::lines::law_at;
+use crate::reading::{Operands, operands_of};
+use crate::template::ArithmeticLaw;
+use nq_bank::{Bank, Node, Sym, TermId, ground};
+use nq_history::History;
+use nq_kernel::{Stop, Work};
+
+/// The functions whose calls are numbers, each with the law that says so.
+const NUMBERS: &[(Sym, ArithmeticLaw)] = &[
+    (
+        ground::ADD1,
+        ArithmeticLaw::Plain(PlainLaw::OneMoreIsNumber),
+    ),
+    (ground::PLUS, ArithmeticLaw::Plain(PlainLaw::SumIsNumber)),
+    (
+        ground::SUB1,
+        ArithmeticLaw::Plain(PlainLaw::OneLessIsNumber),
+    ),
+    (ground::COUNT, ArithmeticLaw::Plain(PlainLaw::SizeIsNumber)),
+    (
+        ground::TIMES,
+        ArithmeticLaw::Inductive(InductiveLaw::ProductIsNumber),
+    ),
+    (
+        ground::DIFFERENCE,
+        ArithmeticLaw::Inductive(InductiveLaw::DifferenceIsNumber),
+    ),
+    (
+        ground::QUOTIENT,
+        ArithmeticLaw::Plain(PlainLaw::QuotientIsNumber),
+    ),
+    (ground::FIX, ArithmeticLaw::Plain(PlainLaw::FixIsNumber)),
+];
+
+/// The law that says that a function's calls are numbers.
+fn law_of_calls(f: Sym) -> Option<ArithmeticLaw> {
+    for i in 0..NUMBERS.len() {
+        if NUMBERS[i].0.0 == f.0 {
+            return Some(NUMBERS[i].1);
+        }
+    }
+    None
+}
+
+/// The law that says that a numeral is a number. There is none for the numerals above 0.
+fn law_of_numeral(n: u128) -> Option<ArithmeticLaw> {
+    if n == 0 {
+        Some(ArithmeticLaw::Plain(PlainLaw::ZeroIsNumber))
+    } else {
+        None
+    }
+}
+
+/// The law that says that a term is a number.
+pub fn number_law(bank: &Bank, t: TermId) -> Option<ArithmeticLaw>
+    requires { Stands bank.now t }
+{
+    match bank.node(t) {
+        Node::App(f, _) => law_of_calls(f),
+        Node::Num(n) => law_of_numeral(n),
+        Node::Var(_) => None,
+    }
+}
+
+/// The arguments of a term; of one that has none, the term itself.
+fn operands_or_whole(work: &Work, history: &History, t: TermId) -> Operands
+    requires stands { WorkStands history.now work.now }
+    requires term { IsTermIn history.now work.now t }
+    ensures { AreOperandsIn history.now work.now result }
+{
+    match operands_of(work, history, t) {
+        Some(at) => at,
+        None => Operands {
+            first: t,
+            second: t,
+        },
+    }
+}
+
+/// Adds the line that a term is a number, where a law says so.
+pub fn number_line(work: &mut Work, history: &History, t: TermId) -> Result<Option<u64>, Stop>
+    requires stands { WorkStands history.now work.old }
+    requires term { IsTermIn history.now work.old t }
+    ensures line { IfOk result (λ found. IfSome found (λ n. LineStands work.new n)) }
+    ensures grows { WorkGrows history.now work.old work.new }
+    ensures out { result ≡ Err Stop.OutOfSteps → work.new.counter.used ≡ work.new.counter.limit }
+{
+    match number_law(&work.bank, t) {
+        Some(law) => {
+            let at = operands_or_whole(work, history, t);
+            let line = law_at(work, history, law, at)?;
+            Ok(Some(line))
+        }
+        None => Ok(None),
+    }
+}

@@ -1,0 +1,112 @@
+//! The table of the law `size_of_pair`. It is printed.
+
+use nq_bank::ground;
+use nq_replay::{Law, LawPair, LawRule};
+use nq_rule::Side;
+use nq_steps::{Leaf, Step};
+
+const X: Step = Step::Leaf(Leaf::Letter(b'X'));
+
+const Y: Step = Step::Leaf(Leaf::Letter(b'Y'));
+
+/// The law `size_of_pair`.
+pub const SIZE_OF_PAIR: Law = Law {
+    names: &[b"X1", b"X2", b"X", b"Y", b"Z"],
+    terms: &[
+        X,
+        Y,
+        Step::Call(ground::TRUE, 0),
+        X,
+        Step::Call(ground::COUNT, 1),
+        Step::Call(ground::ZERO, 0),
+        Y,
+        Step::Call(ground::COUNT, 1),
+        X,
+        Step::Call(ground::COUNT, 1),
+        Y,
+        Step::Call(ground::COUNT, 1),
+        Step::Call(ground::PLUS, 2),
+        Step::Call(ground::ADD1, 1),
+        Step::Call(ground::TRUE, 0),
+        Y,
+        Step::Call(ground::COUNT, 1),
+        Step::Call(ground::ZERO, 0),
+        Step::Call(ground::IF, 3),
+        Step::Call(ground::TRUE, 0),
+        Y,
+        Step::Call(ground::COUNT, 1),
+        Step::Call(ground::ZERO, 0),
+        Step::Call(ground::IF, 3),
+        Y,
+        Step::Call(ground::COUNT, 1),
+        Step::Call(ground::EQUAL, 2),
+        Step::Call(ground::TRUE, 0),
+        X,
+        Step::Call(ground::COUNT, 1),
+        Step::Call(ground::ZERO, 0),
+        Step::Call(ground::IF, 3),
+        Step::Call(ground::TRUE, 0),
+        X,
+        Step::Call(ground::COUNT, 1),
+        Step::Call(ground::ZERO, 0),
+        Step::Call(ground::IF, 3),
+        X,
+        Step::Call(ground::COUNT, 1),
+        Step::Call(ground::EQUAL, 2),
+        X,
+        Y,
+        Step::Call(ground::CONS, 2),
+        Step::Call(ground::COUNT, 1),
+        X,
+        Y,
+        Step::Call(ground::CONS, 2),
+        Step::Call(ground::COUNT, 1),
+        Step::Call(ground::TRUE, 0),
+        X,
+        Step::Call(ground::COUNT, 1),
+        Step::Call(ground::ZERO, 0),
+        Step::Call(ground::IF, 3),
+        Step::Call(ground::TRUE, 0),
+        Y,
+        Step::Call(ground::COUNT, 1),
+        Step::Call(ground::ZERO, 0),
+        Step::Call(ground::IF, 3),
+        Step::Call(ground::PLUS, 2),
+        Step::Call(ground::ADD1, 1),
+        Step::Call(ground::EQUAL, 2),
+    ],
+    rules: &[
+        LawRule::AxiomRow(ground::IF, 2, 0),
+        LawRule::AxiomRow(ground::TRUE, 1, 0),
+        LawRule::AxiomRow(ground::CONS, 14, 0),
+        LawRule::Instance(
+            3,
+            &[LawPair { name: 0, term: 0 }, LawPair { name: 1, term: 1 }],
+        ),
+        LawRule::Instance(
+            1,
+            &[
+                LawPair { name: 2, term: 2 },
+                LawPair { name: 3, term: 3 },
+                LawPair { name: 4, term: 4 },
+            ],
+        ),
+        LawRule::Cut(2, 5, 2),
+        LawRule::Instance(
+            1,
+            &[
+                LawPair { name: 2, term: 2 },
+                LawPair { name: 3, term: 5 },
+                LawPair { name: 4, term: 4 },
+            ],
+        ),
+        LawRule::Cut(2, 7, 2),
+        LawRule::Reflexive(6),
+        LawRule::Replace(9, 1, &[1, 1, 2], 7, Side::Backwards),
+        LawRule::Cut(8, 10, 8),
+        LawRule::Replace(11, 1, &[1, 1, 1], 9, Side::Backwards),
+        LawRule::Cut(6, 12, 10),
+        LawRule::Replace(13, 1, &[1], 11, Side::Backwards),
+        LawRule::Cut(4, 14, 12),
+    ],
+};

@@ -1,0 +1,10 @@
+pub mod DepthLemmas
+pub mod LawLemmas
+pub mod LineLemmas
+pub mod InstanceLemmas
+pub mod CallLemmas
+pub mod TermLemmas
+pub mod NestLemmas
+pub mod DescentLemmas
+pub mod FilterLemmas
+pub mod NestLines

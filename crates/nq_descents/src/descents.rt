@@ -1,0 +1,150 @@
+//! The line of an obligation that the axioms of shells show.
+ghost use Rattle.std.specs.Prelude.{◌≡◌, All, IfOk, IfSome, nat_eq, true};
+ghost use Rattle.std.specs.List.{list_all, list_any};
+ghost use Rattle.nq_bank.specs.Content.{Stands, terms_at};
+ghost use Rattle.nq_kernel.specs.Growing.{WorkStands};
+ghost use Rattle.nq_lines.specs.Lines.{LineHasOnly};
+ghost use Rattle.nq_replay.specs.Uncounted.{GrowsUncounted};
+
+use crate::halt::Halt;
+use crate::instances::instance;
+use crate::nests::nest_line;
+use crate::reading::{argument, has_id, is_call, last_literal, literal_at};
+use crate::rules::cut;
+use nq_bank::{Bank, TermId, ground};
+use nq_history::History;
+use nq_kernel::Work;
+use nq_replay::{size_is_ordinal, smaller_is_below};
+use std::alloc::AllocError;
+
+/// The size of the term of which a term tells the size.
+fn sized(bank: &Bank, size: TermId) -> Result<TermId, Halt> {
+    if is_call(bank, ground::COUNT, size) {
+        argument(bank, size, 0)
+    } else {
+        Err(Halt::Stuck)
+    }
+}
+
+/// Adds the line that the size of a term is an ordinal.
+fn ordinal_line(work: &mut Work, history: &History, size: TermId) -> Result<u64, Halt>
+    requires { WorkStands history.now work.old }
+    ensures { GrowsUncounted history.now work.old work.new }
+{
+    let t = sized(&work.bank, size)?;
+    let law = size_is_ordinal(work, history)?;
+    let known = last_literal(work, law)?;
+    let count = argument(&work.bank, known, 0)?;
+    let variable = argument(&work.bank, count, 0)?;
+    instance(work, history, law, &[variable], &[t])
+}
+
+/// Adds the line that what is smaller is below, for these terms.
+fn below_law(work: &mut Work, history: &History, t: TermId, u: TermId) -> Result<u64, Halt>
+    requires { WorkStands history.now work.old }
+    ensures { GrowsUncounted history.now work.old work.new }
+{
+    let law = smaller_is_below(work, history)?;
+    let below = last_literal(work, law)?;
+    let small = argument(&work.bank, below, 0)?;
+    let large = argument(&work.bank, below, 1)?;
+    let x = argument(&work.bank, small, 0)?;
+    let y = argument(&work.bank, large, 0)?;
+    instance(work, history, law, &[x, y], &[t, u])
+}
+
+/// Adds the line that the size of a nest is below another size.
+fn below_line(
+    work: &mut Work,
+    history: &History,
+    small: TermId,
+    large: TermId,
+    wanted: &[TermId],
+) -> Result<u64, Halt>
+    requires { WorkStands history.now work.old }
+    ensures { GrowsUncounted history.now work.old work.new }
+{
+    let t = sized(&work.bank, small)?;
+    let u = sized(&work.bank, large)?;
+    let reached = nest_line(work, history, t, u, wanted)?;
+    let law = below_law(work, history, t, u)?;
+    cut(work, history, reached.line, law, reached.descent.smaller)
+}
+
+/// Adds the line of a literal with denials of tests, where the literal is of a kind that is tried.
+fn line_of(work: &mut Work, history: &History, goal: TermId, wanted: &[TermId]) -> Result<u64, Halt>
+    requires { WorkStands history.now work.old }
+    ensures { GrowsUncounted history.now work.old work.new }
+{
+    if is_call(&work.bank, ground::ORDINALP, goal) {
+        let size = argument(&work.bank, goal, 0)?;
+        return ordinal_line(work, history, size);
+    }
+    if is_call(&work.bank, ground::ORD_LESSP, goal) {
+        let small = argument(&work.bank, goal, 0)?;
+        let large = argument(&work.bank, goal, 1)?;
+        return below_line(work, history, small, large, wanted);
+    }
+    Err(Halt::Stuck)
+}
+
+/// The literal that is no test: the last one.
+fn goal_of(literals: &[TermId]) -> Result<TermId, Halt> {
+    match literals.last() {
+        Some(t) => Ok(*t),
+        None => Err(Halt::Stuck),
+    }
+}
+
+/// Adds a line that may be the one of an obligation.
+fn tried_line(work: &mut Work, history: &History, literals: &[TermId]) -> Result<u64, Halt>
+    requires { WorkStands history.now work.old }
+    ensures { GrowsUncounted history.now work.old work.new }
+{
+    let goal = goal_of(literals)?;
+    line_of(work, history, goal, literals)
+}
+
+/// Are all of these among others?
+fn are_among(found: &[TermId], literals: &[TermId]) -> bool
+    ensures { result ≡ list_all (λ t. list_any (λ u. nat_eq u.0 t.0) literals.now) found.now }
+{
+    found.iter().all(|t| has_id(literals, *t))
+}
+
+/// Has a line only these literals?
+fn has_only(work: &Work, history: &History, line: u64, literals: &[TermId]) -> bool
+    requires { WorkStands history.now work.now }
+    ensures { result ≡ true → LineHasOnly work.now line (terms_at work.now.bank literals.now) }
+{
+    match work.log.cited(line) {
+        Some(found) => are_among(found, literals),
+        None => false,
+    }
+}
+
+/// The line of an obligation that says that a size is an ordinal, or that the size of a nest of accessors is below that of the
+/// term around which it stands, under tests that say at each level that the constructor made the term there. The descent is the
+/// last literal. There may be none. No step is counted.
+pub fn descent_line(
+    work: &mut Work,
+    history: &History,
+    literals: &[TermId],
+) -> Result<Option<u64>, AllocError>
+    requires stands { WorkStands history.now work.old }
+    requires literals { All (Stands work.old.bank) literals.now }
+    ensures line { IfOk result (λ found. IfSome found (λ n. LineHasOnly work.new n (terms_at work.old.bank literals.now))) }
+    ensures grows { GrowsUncounted history.now work.old work.new }
+{
+    match tried_line(work, history, literals) {
+        Ok(line) => {
+            if has_only(work, history, line, literals) {
+                Ok(Some(line))
+            } else {
+                Ok(None)
+            }
+        }
+        Err(Halt::Stuck) => Ok(None),
+        Err(Halt::Memory) => Err(AllocError),
+    }
+}

@@ -1,0 +1,11 @@
+pub mod ListLemmas
+pub mod GrownLemmas
+pub mod CallLemmas
+pub mod CandidateLemmas
+pub mod CaseLemmas
+pub mod GoalLemmas
+pub mod ReasonLemmas
+pub mod DenialLemmas
+pub mod WayLemmas
+pub mod CutLemmas
+pub mod ClosingLemmas

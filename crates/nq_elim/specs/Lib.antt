@@ -1,0 +1,4 @@
+pub mod Cases
+pub mod Candidates
+pub mod Reasons
+pub mod Eliminations

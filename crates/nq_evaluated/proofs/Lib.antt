@@ -1,0 +1,2 @@
+pub mod GroundLemmas
+pub mod ValueLemmas

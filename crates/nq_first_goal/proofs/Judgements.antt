@@ -1,0 +1,121 @@
+-- Goals that are judged over a bank.
+use Rattle.std.proofs.Common.{◌≡◌, ◌∙◌, Bool, true, false, refl, Option, Some, None, List, [], ◌∷◌, map, ap, sym, subst, arith}
+use Rattle.std.specs.Prelude.{All, IsTrue, ◌↔◌, MatchOption}
+use Rattle.nq_logic.specs.Terms.{Term, Each}
+use Rattle.nq_logic.specs.Histories.{History}
+use Rattle.nq_bank.specs.declared.node.TermId.{TermId}
+use Rattle.nq_bank.specs.Content.{Content, Grows, Stands, term_at, terms_at}
+use Rattle.nq_bank.proofs.NodesLemmas.{All-head, All-tail}
+use Rattle.nq_proof.specs.Rules.{pair_terms}
+use Rattle.nq_history.specs.declared.entry.Entry.{Entry}
+use Rattle.nq_history.specs.declared.hints.Hints.{Hints}
+use Rattle.nq_history.specs.declared.hints.Instance.{Instance}
+use Rattle.nq_history.specs.Events.{events_at, HistoryStands}
+use Rattle.nq_history.proofs.HistoryLemmas.{events_at-grown}
+use Rattle.nq_history.proofs.Lists.{All-cons, All-none}
+use Rattle.nq_clause.specs.declared.substitution.Pair.{Pair}
+use Rattle.nq_kernel.specs.declared.rule.Line.{Line}
+use Rattle.nq_kernel.specs.declared.work.Work.{Work}
+use Rattle.nq_kernel.specs.Growing.{PrescriptionStands, WorkStands}
+use Rattle.nq_kernel.specs.Hints.{HintsAreIn, PairIsIn}
+use Rattle.nq_kernel.specs.Meaning.{IsOver as LogIsOver}
+use Rattle.nq_kernel.specs.Over.{TermIsIn}
+use Rattle.nq_kernel.specs.Ready.{IsReady}
+use Rattle.nq_comment.specs.declared.step.Cause.{Cause}
+use Rattle.nq_comment.specs.declared.step.Cause.TheVariants.{False, NoInduction, Loop, Forbidden, Depth}
+use Rattle.nq_history.specs.Hints.{HintsStand}
+use Rattle.nq_events.specs.Events as model
+use Rattle.nq_event.proofs.HintSumLemmas.{hints_same}
+use Rattle.nq_event.specs.EventsAt.{hints_at, instance_at, pair_at}
+use Rattle.nq_goals.specs.Hints.{first_goal}
+use Rattle.nq_goals.specs.Spent.{IsFalse, IsSpent}
+use Rattle.nq_goals.specs.declared.kinds.Cause.TheVariants as goals
+use Rattle.nq_ground_goals.specs.Literals.{IsLiteral}
+use Rattle.nq_first_goal.specs.declared.judging.Judged.{Judged}
+use Rattle.nq_first_goal.specs.Judging.{IsCauseOf, IsJudged, cause_if, failing}
+use Rattle.nq_first_goal.proofs.Overs.{IsOver, first_goal_over}
+
+-- ---- work on a bank
+
+log_over : (bank : Content) (log : List Line) → log ≡ [] → LogIsOver bank log
+log_over bank log none = subst (LogIsOver bank) (sym none) (record { stand = λ i d below. absurd (omega (arith, below)) })
+
+-- with no line yet
+pub work_stands : (history : List Entry) (bank : Content) (work : Work) → HistoryStands bank history → work.bank ≡ bank → work.log ≡ [] → work.known.items ≡ [] → WorkStands history work
+work_stands history bank work stands bank_is none unknown =
+    record {
+      log = log_over work.bank work.log none;
+      history = subst (λ (b : Content). HistoryStands b history) (sym bank_is) stands;
+      known = subst (All (PrescriptionStands work.bank work.log)) (sym unknown) (λ i d below. absurd (omega (arith, below)));
+    }
+
+-- ---- literals
+
+-- the pairs of the instances that hints name are over the history
+pairs_over : (bank : Content) (history : List Entry) (pairs : List Pair) → All (PairIsIn bank history) pairs → Each (IsOver (events_at bank history)) (pair_terms (map (pair_at bank) pairs))
+pairs_over bank history [] all = tt
+pairs_over bank history (p ∷ pairs) all = ((All-head (PairIsIn bank history) p pairs all).term, pairs_over bank history pairs (All-tail (PairIsIn bank history) p pairs all))
+
+instances_over : (bank : Content) (history : List Entry) (instances : List Instance) → All (λ i. All (PairIsIn bank history) i.pairs.items) instances
+    → Each (λ (i : model.Instance). Each (IsOver (events_at bank history)) (pair_terms i.pairs)) (map (instance_at bank) instances)
+instances_over bank history [] all = tt
+instances_over bank history (i ∷ instances) all = (
+  pairs_over bank history i.pairs.items (All-head (λ (i : Instance). All (PairIsIn bank history) i.pairs.items) i instances all),
+  instances_over bank history instances (All-tail (λ (i : Instance). All (PairIsIn bank history) i.pairs.items) i instances all),
+)
+
+literals_by : (bank : Content) (history : List Entry) (ids : List TermId) → All (Stands bank) ids → Each (IsOver (events_at bank history)) (terms_at bank ids) → All (IsLiteral bank history) ids
+literals_by bank history [] stand over = All-none (IsLiteral bank history)
+literals_by bank history (t ∷ ids) stand over =
+    All-cons (IsLiteral bank history) t ids (record { stands = All-head (Stands bank) t ids stand; over = over.0 }) (literals_by bank history ids (All-tail (Stands bank) t ids stand) over.1)
+
+module _ (bank later : Content) (history : List Entry) (hints : Hints) (goal : TermId) (stands : HistoryStands bank history) (grows : Grows bank later) where
+  abbrev h : History
+  h = events_at bank history
+
+  events_kept : events_at later history ≡ h
+  events_kept = events_at-grown bank later grows history stands.entries
+
+  pub ready_kept : IsReady h → IsReady (events_at later history)
+  ready_kept ready = subst IsReady (sym events_kept) ready
+
+  -- the literals of the first goal
+  pub literals_are : (ids : List TermId) → IsReady h → HintsAreIn bank history hints → TermIsIn bank history goal → All (Stands later) ids → terms_at later ids ≡ first_goal h (hints_at bank hints) (term_at bank goal)
+      → All (IsLiteral later history) ids
+  literals_are ids ready hints_in over stand are =
+      let each : Each (IsOver h) (terms_at later ids) =
+      subst (Each (IsOver h)) (sym are) (first_goal_over h (hints_at bank hints) (term_at bank goal) ready (instances_over bank history hints.instances.items hints_in.instances) over) in
+      literals_by later history ids stand (subst (λ (k : History). Each (IsOver k) (terms_at later ids)) (sym events_kept) each)
+
+  -- what was told of them is told of the first goal
+  pub judged_before : (ids : List TermId) (told given : Judged) → HintsStand bank hints → terms_at later ids ≡ first_goal h (hints_at bank hints) (term_at bank goal)
+      → IsJudged (events_at later history) (hints_at later hints) (terms_at later ids) told → given.text ≡ told.text → given.cause ≡ told.cause
+      → IsJudged h (hints_at bank hints) (first_goal h (hints_at bank hints) (term_at bank goal)) given
+  judged_before ids told given stand are judged text same =
+      let kept : IsJudged h (hints_at bank hints) (terms_at later ids) told =
+      subst (λ (k : model.Hints). IsJudged h k (terms_at later ids) told) (hints_same bank later grows hints stand) (subst (λ (k : History). IsJudged k (hints_at later hints) (terms_at later ids) told) events_kept judged) in
+      let here : IsJudged h (hints_at bank hints) (first_goal h (hints_at bank hints) (term_at bank goal)) told = subst (λ (ts : List Term). IsJudged h (hints_at bank hints) ts told) are kept in
+      record {
+        text = ap (λ v. v.items) text ∙ here.text;
+        cause =
+            subst (λ (o : Option Cause). MatchOption o (IsFalse h (first_goal h (hints_at bank hints) (term_at bank goal)) → ⊥) (IsCauseOf h (hints_at bank hints) (first_goal h (hints_at bank hints) (term_at bank goal))))
+            (sym same) here.cause;
+      }
+
+-- the cause, by the two tests
+pub cause_told : (h : History) (hints : model.Hints) (goal : List Term) (falsity stuck : Bool) → IsTrue falsity ↔ IsFalse h goal → (stuck ≡ true → (IsFalse h goal → ⊥) → IsSpent h hints [] goal goals.NoInduction)
+    → MatchOption (cause_if falsity stuck) (IsFalse h goal → ⊥) (IsCauseOf h hints goal)
+cause_told h hints goal true stuck tells spent = tells.0 refl
+cause_told h hints goal false true tells spent = spent refl (λ f. let yes : false ≡ true = tells.1 f in absurd cc)
+cause_told h hints goal false false tells spent = λ f. let yes : false ≡ true = tells.1 f in absurd cc
+
+-- what is told still holds where moves proved the lemma
+pub still_told : (h : History) (hints : model.Hints) (goal : List Term) (known : Option Cause) (proved : Bool) → MatchOption known (IsFalse h goal → ⊥) (IsCauseOf h hints goal)
+    → MatchOption (failing known proved) (IsFalse h goal → ⊥) (IsCauseOf h hints goal)
+still_told h hints goal None proved told = told
+still_told h hints goal (Some False) proved told = told
+still_told h hints goal (Some NoInduction) true told = told.first.0
+still_told h hints goal (Some NoInduction) false told = told
+still_told h hints goal (Some Loop) proved told = absurd told
+still_told h hints goal (Some Forbidden) proved told = absurd told
+still_told h hints goal (Some Depth) proved told = absurd told

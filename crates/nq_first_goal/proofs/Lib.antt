@@ -1,0 +1,4 @@
+pub mod TextLemmas
+pub mod Overs
+pub mod Denials
+pub mod Judgements

@@ -1,0 +1,148 @@
+//! What is told of the first goal of a lemma: its text, and why it is left over, where it is false or stuck.
+ghost use Rattle.std.specs.Prelude.{◌≡◌, All, IfOk};
+ghost use Rattle.nq_bank.specs.Content.{Grows, Stands, term_at, terms_at};
+ghost use Rattle.nq_bank.specs.Marks.{CanRelease, released};
+ghost use Rattle.nq_history.specs.Events.{HistoryStands, events_at};
+ghost use Rattle.nq_history.specs.Hints.{HintsStand};
+ghost use Rattle.nq_kernel.specs.Hints.{HintsAreIn};
+ghost use Rattle.nq_kernel.specs.Over.{TermIsIn};
+ghost use Rattle.nq_kernel.specs.Ready.{IsReady};
+ghost use Rattle.nq_event.specs.EventsAt.{hints_at};
+ghost use Rattle.nq_goals.specs.Hints.{first_goal};
+ghost use Rattle.nq_ground_goals.specs.Literals.{IsLiteral};
+ghost use Rattle.nq_answers.specs.Goals.{goal_text};
+ghost use Rattle.nq_first_goal.specs.Judging.{IsJudged, cause_if, failing, failing_by};
+
+use crate::goals::first_goal;
+use crate::texts::goal_text;
+use nq_bank::{Bank, Mark, TermId};
+use nq_comment::Cause;
+use nq_ground_goals::is_false;
+use nq_history::{Hints, History};
+use nq_kernel::{Log, Work};
+use nq_stuck::is_stuck;
+use std::alloc::{AllocError, Global};
+
+/// What is told of a goal, and the bank as it was before.
+#[derive(Drop)]
+pub struct Judged {
+    /// The bank.
+    pub bank: Bank,
+    /// The text of the goal.
+    pub text: Vec<u8>,
+    /// Why the goal is left over: it is false, or stuck. None where neither is known.
+    pub cause: Option<Cause>,
+}
+
+/// Without what was made in the bank past the mark.
+fn given_back(judged: Judged, mark: Mark) -> Judged
+    requires { CanRelease judged.bank mark }
+    ensures bank { result.bank ≡ released judged.bank mark }
+    ensures text { result.text ≡ judged.text }
+    ensures cause { result.cause ≡ judged.cause }
+{
+    let Judged {
+        mut bank,
+        text,
+        cause,
+    } = judged;
+    bank.release(mark);
+    Judged { bank, text, cause }
+}
+
+/// Why a goal is left over, by whether it is false, and whether it is stuck.
+fn cause_if(falsity: bool, stuck: bool) -> Option<Cause>
+    ensures { result ≡ cause_if falsity stuck }
+{
+    if falsity {
+        Some(Cause::False)
+    } else if stuck {
+        Some(Cause::NoInduction)
+    } else {
+        None
+    }
+}
+
+/// The cause that is told, where moves proved the lemma or did not: of a proved one only that its first goal is false.
+fn failing_by(cause: Cause, proved: bool) -> Option<Cause>
+    ensures { result ≡ failing_by cause proved }
+{
+    match cause {
+        Cause::False => Some(Cause::False),
+        Cause::NoInduction => {
+            if proved {
+                None
+            } else {
+                Some(Cause::NoInduction)
+            }
+        }
+        Cause::Loop => Some(Cause::Loop),
+        Cause::Forbidden => Some(Cause::Forbidden),
+        Cause::Depth => Some(Cause::Depth),
+    }
+}
+
+/// Why a lemma fails, by what is told of its first goal, and whether moves proved it. A stuck goal may be proved all the same.
+pub fn failing(cause: Option<Cause>, proved: bool) -> Option<Cause>
+    ensures { result ≡ failing cause proved }
+{
+    match cause {
+        Some(known) => failing_by(known, proved),
+        None => None,
+    }
+}
+
+/// What is told of a goal over this bank.
+fn told(
+    alloc: Global,
+    bank: Bank,
+    history: &History,
+    hints: &Hints,
+    goal: &[TermId],
+) -> Result<Judged, AllocError>
+    requires history { HistoryStands bank history.now }
+    requires ready { IsReady (events_at bank history.now) }
+    requires hints { HintsStand bank hints.now }
+    requires stand { All (Stands bank) goal.now }
+    requires literals { All (IsLiteral bank history.now) goal.now }
+    ensures grows { IfOk result (λ judged. Grows bank judged.bank) }
+    ensures told { IfOk result (IsJudged (events_at bank history.now) (hints_at bank hints.now) (terms_at bank goal.now)) }
+{
+    let text = goal_text(&bank, goal)?;
+    let stuck = is_stuck(&bank, history, hints, goal)?;
+    let mut work = Work::new(bank, Log::new(alloc), 0);
+    let falsity = is_false(&mut work, history, goal)?;
+    let cause = cause_if(falsity, stuck);
+    Ok(Judged {
+        bank: work.bank,
+        text,
+        cause,
+    })
+}
+
+/// The text of the first goal of a lemma, and why it is left over, where it is false or stuck. What they made in the bank is given back. An instance that is
+/// deeper than a bank allows counts as want of memory; a lawful hint names none.
+pub fn judge(
+    alloc: Global,
+    bank: Bank,
+    history: &History,
+    hints: &Hints,
+    goal: TermId,
+) -> Result<Judged, AllocError>
+    requires history { HistoryStands bank history.now }
+    requires ready { IsReady (events_at bank history.now) }
+    requires goal { Stands bank goal }
+    requires over { TermIsIn bank history.now goal }
+    requires hints { HintsStand bank hints.now }
+    requires hint_terms { HintsAreIn bank history.now hints.now }
+    ensures bank { IfOk result (λ judged. judged.bank ≡ bank) }
+    ensures told { IfOk result (IsJudged (events_at bank history.now) (hints_at bank hints.now) (first_goal (events_at bank history.now) (hints_at bank hints.now) (term_at bank goal))) }
+{
+    let mark = bank.mark();
+    let mut bank = bank;
+    let Ok(first) = first_goal(&mut bank, history, hints, goal) else {
+        return Err(AllocError);
+    };
+    let judged = told(alloc, bank, history, hints, first.as_slice())?;
+    Ok(given_back(judged, mark))
+}

@@ -1,0 +1,4 @@
+pub mod Claims
+pub mod Schemes
+pub mod Goals
+pub mod Instances

@@ -1,0 +1,21 @@
+use Rattle.std.proofs.Common.{◌∙◌, sym, subst, arith}
+use Rattle.nq_kernel.specs.Over.{IsVariable}
+use Rattle.nq_moves.proofs.ClosingLemmas.{all_stand}
+use Rattle.nq_moves.proofs.SwappedLemmas.{goal_in_grown}
+use Rattle.nq_moves.proofs.NamingLemmas.{numbered_plain}
+use Rattle.nq_moves.proofs.naming.new_name.Goals as goal
+
+pub occurs_in_these-requires-clause-variable : goal.occurs_in_these-requires-clause-variable
+occurs_in_these-requires-clause-variable c = c.in_ok-name.ensures.name.named
+
+pub occurs_in_these-requires-clause-these : goal.occurs_in_these-requires-clause-these
+occurs_in_these-requires-clause-these c =
+    all_stand c.args.history.now c.numbered_name.new.work c.args.literals.now (goal_in_grown c.args.history.now c.args.work.now c.numbered_name.new.work c.requires.stands c.numbered_name.ensures.grows c.args.literals.now c.requires.literals)
+
+pub returns-else-branch-clause-name : goal.returns-else-branch-clause-name
+returns-else-branch-clause-name c =
+    record {
+      named = c.in_ok-name.ensures.name.named;
+      plain = subst IsVariable (sym c.in_ok-name.ensures.name.reads) (numbered_plain c.args.number c.requires.number (omega (arith, c.ranges.number.fits)));
+      free = sym c.in_ok-occurs_in_these.ensures.answer ∙ c.if-branch.false;
+    }

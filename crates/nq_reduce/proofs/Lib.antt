@@ -1,0 +1,7 @@
+pub mod RewritingLemmas
+pub mod ArgumentLemmas
+pub mod HeldLemmas
+pub mod ClauseLemmas
+pub mod DroppingLemmas
+pub mod ValueLemmas
+pub mod StepLemmas

@@ -1,0 +1,12 @@
+use Rattle.nq_kernel.proofs.GrowingLemmas.{WorkGrows-trans}
+use Rattle.nq_reduce.proofs.RewritingLemmas.{can_grown, told_before}
+use Rattle.nq_reduce.proofs.reducing.reduce_call.Goals as goal
+
+pub reduce_by_truth-requires : goal.reduce_by_truth-requires
+reduce_by_truth-requires c = record { can = can_grown c.args.history.now c.args.work.now c.by_value.new.work c.by_value.ensures.grows c.args.assumed.now c.args.t c.requires.can }
+
+pub returns-else-is_some-clause-ok : goal.returns-else-is_some-clause-ok
+returns-else-is_some-clause-ok c = told_before c.args.history.now c.args.assumed.now c.args.work.now c.by_value.new.work c.reduce_by_truth.new.work c.args.t c.reduce_by_truth.result c.by_value.ensures.grows c.requires.can c.reduce_by_truth.ensures.ok
+
+pub returns-else-is_some-clause-grows : goal.returns-else-is_some-clause-grows
+returns-else-is_some-clause-grows c = (WorkGrows-trans c.args.history.now c.args.work.now c.by_value.new.work c.reduce_by_truth.new.work c.by_value.ensures.grows c.reduce_by_truth.ensures.grows)

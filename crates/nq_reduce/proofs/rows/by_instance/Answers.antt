@@ -1,0 +1,23 @@
+use Rattle.std.proofs.Common.{subst}
+use Rattle.std.specs.Prelude.{IfSome}
+use Rattle.nq_bank.specs.Content.{terms_at}
+use Rattle.nq_kernel.proofs.GrowingLemmas.{WorkGrows-trans}
+use Rattle.nq_reduce.specs.Held.{IsHeld}
+use Rattle.nq_reduce.proofs.RewritingLemmas.{can_grown, told_before}
+use Rattle.nq_reduce.proofs.HeldLemmas.{held_now, unchanged_after}
+use Rattle.nq_reduce.proofs.rows.by_instance.Goals as goal
+
+pub rewritten_by-requires-clause-can : goal.rewritten_by-requires-clause-can
+rewritten_by-requires-clause-can c = can_grown c.args.history.now c.args.work.now c.shown_by.new.work c.shown_by.ensures.grows c.args.assumed.now c.args.t c.requires.can
+
+pub rewritten_by-requires-clause-fact : goal.rewritten_by-requires-clause-fact
+rewritten_by-requires-clause-fact c = held_now c.args.history.now c.args.work.now c.shown_by.new.work c.shown_by.ensures.grows c.args.assumed.now c.args.t c.requires.can c.in-Some.fact (subst (λ o. IfSome o (IsHeld c.args.history.now c.shown_by.new.work (terms_at c.args.work.now.bank c.args.assumed.now))) c.in-Some.is c.in_ok-fact.ensures.held)
+
+pub returns-in-Some-clause-ok : goal.returns-in-Some-clause-ok
+returns-in-Some-clause-ok c = told_before c.args.history.now c.args.assumed.now c.args.work.now c.shown_by.new.work c.rewritten_by.new.work c.args.t c.rewritten_by.result c.shown_by.ensures.grows c.requires.can c.rewritten_by.ensures.ok
+
+pub returns-in-Some-clause-grows : goal.returns-in-Some-clause-grows
+returns-in-Some-clause-grows c = (WorkGrows-trans c.args.history.now c.args.work.now c.shown_by.new.work c.rewritten_by.new.work c.shown_by.ensures.grows c.rewritten_by.ensures.grows)
+
+pub returns-in-None-clause-ok : goal.returns-in-None-clause-ok
+returns-in-None-clause-ok c = unchanged_after c.args.history.now c.args.work.now c.shown_by.new.work c.args.assumed.now c.args.t c.unchanged.result c.shown_by.ensures.grows c.requires.can c.unchanged.ensures.term c.unchanged.ensures.line

@@ -1,0 +1,5 @@
+pub mod Rewriting
+pub mod Held
+pub mod Clauses
+pub mod Values
+pub mod Equations

@@ -1,0 +1,115 @@
+//! One step on a call.
+ghost use Rattle.std.specs.Prelude.{◌≡◌, IfOk, Err};
+ghost use Rattle.nq_bank.specs.Content.{term_at, terms_at};
+ghost use Rattle.nq_kernel.specs.Growing.{WorkGrows};
+ghost use Rattle.nq_reduce.specs.Rewriting.{CanRewrite, IsRewritten};
+
+use crate::distinct::by_distinct;
+use crate::equations::by_assumed_equation;
+use crate::results::Rewritten;
+use crate::shells::{by_kind, by_shell};
+use crate::truths::by_truth;
+use crate::values::by_value;
+use nq_bank::TermId;
+use nq_history::History;
+use nq_kernel::{Stop, Work};
+
+/// One step on a call whose arguments were rewritten, by the first mechanism that knows one: no rule, no opening.
+pub fn reduce_call(
+    work: &mut Work,
+    history: &History,
+    assumed: &[TermId],
+    t: TermId,
+) -> Result<Rewritten, Stop>
+    requires can { CanRewrite history.now work.old assumed.now t }
+    ensures ok { IfOk result (λ r. IsRewritten history.now work.new (terms_at work.old.bank assumed.now) (term_at work.old.bank t) r) }
+    ensures grows { WorkGrows history.now work.old work.new }
+    ensures out { result ≡ Err Stop.OutOfSteps → work.new.counter.used ≡ work.new.counter.limit }
+{
+    let step = by_value(work, history, assumed, t)?;
+    if step.line.is_some() {
+        Ok(step)
+    } else {
+        reduce_by_truth(work, history, assumed, t)
+    }
+}
+
+/// The same, where it has no value by the table.
+fn reduce_by_truth(
+    work: &mut Work,
+    history: &History,
+    assumed: &[TermId],
+    t: TermId,
+) -> Result<Rewritten, Stop>
+    requires can { CanRewrite history.now work.old assumed.now t }
+    ensures ok { IfOk result (λ r. IsRewritten history.now work.new (terms_at work.old.bank assumed.now) (term_at work.old.bank t) r) }
+    ensures grows { WorkGrows history.now work.old work.new }
+    ensures out { result ≡ Err Stop.OutOfSteps → work.new.counter.used ≡ work.new.counter.limit }
+{
+    let step = by_truth(work, history, assumed, t)?;
+    if step.line.is_some() {
+        Ok(step)
+    } else {
+        reduce_by_equation(work, history, assumed, t)
+    }
+}
+
+/// The same, where it is not known to be true or false.
+fn reduce_by_equation(
+    work: &mut Work,
+    history: &History,
+    assumed: &[TermId],
+    t: TermId,
+) -> Result<Rewritten, Stop>
+    requires can { CanRewrite history.now work.old assumed.now t }
+    ensures ok { IfOk result (λ r. IsRewritten history.now work.new (terms_at work.old.bank assumed.now) (term_at work.old.bank t) r) }
+    ensures grows { WorkGrows history.now work.old work.new }
+    ensures out { result ≡ Err Stop.OutOfSteps → work.new.counter.used ≡ work.new.counter.limit }
+{
+    let step = by_assumed_equation(work, history, assumed, t)?;
+    if step.line.is_some() {
+        Ok(step)
+    } else {
+        reduce_by_shell(work, history, assumed, t)
+    }
+}
+
+/// The same, where no assumed equation makes it simpler.
+fn reduce_by_shell(
+    work: &mut Work,
+    history: &History,
+    assumed: &[TermId],
+    t: TermId,
+) -> Result<Rewritten, Stop>
+    requires can { CanRewrite history.now work.old assumed.now t }
+    ensures ok { IfOk result (λ r. IsRewritten history.now work.new (terms_at work.old.bank assumed.now) (term_at work.old.bank t) r) }
+    ensures grows { WorkGrows history.now work.old work.new }
+    ensures out { result ≡ Err Stop.OutOfSteps → work.new.counter.used ≡ work.new.counter.limit }
+{
+    let step = by_shell(work, history, assumed, t)?;
+    if step.line.is_some() {
+        Ok(step)
+    } else {
+        reduce_by_kind(work, history, assumed, t)
+    }
+}
+
+/// The same, where it is no part, object or size that is told.
+fn reduce_by_kind(
+    work: &mut Work,
+    history: &History,
+    assumed: &[TermId],
+    t: TermId,
+) -> Result<Rewritten, Stop>
+    requires can { CanRewrite history.now work.old assumed.now t }
+    ensures ok { IfOk result (λ r. IsRewritten history.now work.new (terms_at work.old.bank assumed.now) (term_at work.old.bank t) r) }
+    ensures grows { WorkGrows history.now work.old work.new }
+    ensures out { result ≡ Err Stop.OutOfSteps → work.new.counter.used ≡ work.new.counter.limit }
+{
+    let step = by_kind(work, history, assumed, t)?;
+    if step.line.is_some() {
+        Ok(step)
+    } else {
+        by_distinct(work, history, assumed, t)
+    }
+}

@@ -1,0 +1,5 @@
+use Rattle.nq_kernel.proofs.GrowingLemmas.{WorkGrows-refl}
+use Rattle.nq_rewrite.proofs.entrance.rewrite_by.Goals as goal
+
+pub returns-in_err-goal-clause-grows : goal.returns-in_err-goal-clause-grows
+returns-in_err-goal-clause-grows c = WorkGrows-refl c.args.history.now c.args.work.now c.requires.can.stands

@@ -1,0 +1,176 @@
+//! The rules of a history, by the functions of their left sides. They decide only what is tried.
+ghost use Rattle.nq_bank.specs.Content.{Stands};
+ghost use Rattle.nq_history.specs.Events.{HistoryStands};
+ghost use Rattle.std.specs.Prelude.{◌<◌, length};
+
+use crate::terms::{has_name, is_before, is_walked};
+use nq_bank::{Bank, Node, Sym, TermId, ground};
+use nq_clause::match_term;
+use nq_history::{Class, Entry, EntryKind, Hints, History};
+use nq_rules::{conclusion_of, left_side, two_of};
+use std::alloc::AllocError;
+
+/// A left side of a rule.
+#[derive(Clone, Copy)]
+pub struct Head {
+    /// Its function.
+    pub function: Sym,
+    /// The place of the rule in the history.
+    pub place: u64,
+    /// Whether the rule says that the left side is true, and not what it equals.
+    pub truth: bool,
+    /// Whether the right side is an instance of the left side, as in commutativity.
+    pub permutes: bool,
+}
+
+/// The rules that are enabled, by their left sides, the newest first.
+#[derive(Drop)]
+pub struct Rules {
+    /// The left sides.
+    pub heads: Vec<Head>,
+}
+
+/// Is an event enabled for the hints?
+pub fn is_enabled(history: &History, hints: &Hints, name: Sym) -> bool {
+    if has_name(hints.disable.as_slice(), name) {
+        return false;
+    }
+    if has_name(hints.enable.as_slice(), name) {
+        return true;
+    }
+    history.enabled(name)
+}
+
+/// Is REWRITE among these classes?
+fn has_rewrite(classes: &[Class]) -> bool {
+    for class in classes {
+        if *class == Class::Rewrite {
+            return true;
+        }
+    }
+    false
+}
+
+/// Is an entry an axiom or lemma of the class REWRITE?
+fn is_rewrite_rule(e: &Entry) -> bool {
+    match &e.kind {
+        EntryKind::Axiom(classes, _) => has_rewrite(classes.as_slice()),
+        EntryKind::Lemma(classes, _) => has_rewrite(classes.as_slice()),
+        EntryKind::Shell(_) => false,
+        EntryKind::Dcl(_) => false,
+        EntryKind::Defn(_, _, _) => false,
+        EntryKind::Toggle(_, _) => false,
+    }
+}
+
+/// Is one term an instance of another?
+fn is_instance(bank: &Bank, pattern: TermId, t: TermId) -> Result<bool, AllocError>
+    requires pattern { Stands bank.now pattern }
+    requires term { Stands bank.now t }
+{
+    let mut bindings = Vec::new(bank.alloc());
+    match_term(bank, pattern, t, &mut bindings)
+}
+
+/// Adds the left side of a part of a conclusion.
+fn add_head(bank: &Bank, heads: &mut Vec<Head>, place: u64, part: TermId) -> Result<(), AllocError>
+    requires { Stands bank.now part }
+{
+    let left = left_side(bank, part);
+    if let Node::App(function, _) = bank.node(left) {
+        let permutes = match two_of(bank, ground::EQUAL, part) {
+            Some((l, r)) => is_instance(bank, l, r)?,
+            None => false,
+        };
+        heads.push(Head {
+            function,
+            place,
+            truth: left.0 == part.0,
+            permutes,
+        })?;
+    }
+    Ok(())
+}
+
+/// Adds the left sides of a conclusion.
+fn add_heads(bank: &Bank, heads: &mut Vec<Head>, place: u64, part: TermId) -> Result<(), AllocError>
+    requires { Stands bank.now part }
+{
+    match two_of(bank, ground::AND, part) {
+        Some((p, q)) => {
+            add_heads(bank, heads, place, p)?;
+            add_heads(bank, heads, place, q)
+        }
+        None => add_head(bank, heads, place, part),
+    }
+}
+
+/// Adds the left sides of the entry at a place, if it is a rule that is enabled.
+fn add_rule(
+    bank: &Bank,
+    history: &History,
+    hints: &Hints,
+    heads: &mut Vec<Head>,
+    place: u64,
+) -> Result<(), AllocError>
+    requires stands { HistoryStands bank.now history.now }
+    requires place { place < length history.now }
+{
+    let e = history.entry(place);
+    if is_rewrite_rule(e) && is_enabled(history, hints, e.name) {
+        if let Some(t) = history.term_of(bank, e.name) {
+            add_heads(bank, heads, place, conclusion_of(bank, t))?;
+        }
+    }
+    Ok(())
+}
+
+/// The rules of a history that are enabled for these hints.
+pub fn make_rules(bank: &Bank, history: &History, hints: &Hints) -> Result<Rules, AllocError>
+    requires { HistoryStands bank.now history.now }
+{
+    let mut heads = Vec::new(bank.alloc());
+    let count = history.len();
+    for place in 0..count {
+        add_rule(bank, history, hints, &mut heads, count - 1 - place)?;
+    }
+    Ok(Rules { heads })
+}
+
+/// May an instance of a rule rewrite a term? One whose right side is an instance of its left side may where what it gives comes
+/// before the term.
+pub fn is_allowed(bank: &Bank, head: Head, t: TermId, fact: TermId) -> bool
+    requires term { Stands bank.now t }
+    requires fact { Stands bank.now fact }
+{
+    if !head.permutes {
+        return true;
+    }
+    let part = conclusion_of(bank, fact);
+    match right_for(bank, part, t) {
+        Some(r) => {
+            if r.0 < bank.len() {
+                is_walked(bank, r) && is_walked(bank, t) && is_before(bank, r, t)
+            } else {
+                false
+            }
+        }
+        None => true,
+    }
+}
+
+/// The right side of the part of a term that has t as its left side.
+fn right_for(bank: &Bank, u: TermId, t: TermId) -> Option<TermId>
+    requires { Stands bank.now u }
+{
+    match two_of(bank, ground::AND, u) {
+        Some((p, q)) => match right_for(bank, p, t) {
+            Some(found) => Some(found),
+            None => right_for(bank, q, t),
+        },
+        None => match two_of(bank, ground::EQUAL, u) {
+            Some((l, r)) => if l.0 == t.0 { Some(r) } else { None },
+            None => None,
+        },
+    }
+}

@@ -1,0 +1,121 @@
+//! What a rewriting learns as it goes on. It decides only what is tried.
+ghost use Rattle.std.specs.Prelude.{◌≡◌, Err};
+ghost use Rattle.nq_bank.specs.Content.{Stands};
+
+use crate::terms::{is_all_in, shares_variable, variables_of};
+use nq_bank::{Bank, TermId};
+use nq_kernel::Stop;
+use std::alloc::Global;
+use std::collections::HashMap;
+
+/// The factor that mixes the bits of a mark.
+const FACTOR: u64 = 0x9E37_79B9_7F4A_7C15;
+
+/// How many nodes a test of a body may have beside those of the call.
+const TEST_NODES: u64 = 4;
+
+/// A mark with one more number in it.
+pub fn mixed(mark: u64, more: u64) -> u64 {
+    let product = (mark ^ more).wrapping_mul(FACTOR);
+    product ^ (product >> 29)
+}
+
+/// What a rewriting has learnt.
+#[derive(Drop)]
+pub struct Search {
+    /// Whether the innermost opening is given up.
+    pub given_up: bool,
+    /// Whether something was not tried for what it stands within, since the term at hand was entered.
+    bound: bool,
+    /// The marks of terms that nothing rewrites, with what is assumed and with what they stand within.
+    settled: HashMap<u64, bool>,
+}
+
+/// The mark of a term where these are assumed. Only the assumptions count that share a variable with it: the others have no part
+/// in its rewriting, and in which order they stand has none either.
+pub fn mark_of(bank: &Bank, assumed: &[TermId], t: TermId) -> u64
+    requires { Stands bank.now t }
+{
+    let variables = variables_of(bank, t);
+    let mut sum: u64 = 0;
+    for a in assumed {
+        if shares_variable(bank, variables, *a) {
+            sum = sum.wrapping_add(mixed(5, a.0));
+        }
+    }
+    mixed(mixed(1, t.0), sum)
+}
+
+/// The mark of a call that is opened where these are assumed. The tests of its body are about what stands in it, and so only the
+/// assumptions count that have no other variables and are hardly larger.
+pub fn mark_of_opening(bank: &Bank, assumed: &[TermId], t: TermId) -> u64
+    requires { Stands bank.now t }
+{
+    let variables = variables_of(bank, t);
+    let nodes = bank.size(t).saturating_add(TEST_NODES);
+    let mut sum: u64 = 0;
+    for a in assumed {
+        if is_all_in(bank, variables, nodes, *a) {
+            sum = sum.wrapping_add(mixed(6, a.0));
+        }
+    }
+    mixed(mixed(7, t.0), sum)
+}
+
+impl Search {
+    /// Nothing is learnt yet.
+    pub fn new(alloc: Global) -> Search {
+        Search {
+            given_up: false,
+            bound: false,
+            settled: HashMap::new(alloc),
+        }
+    }
+
+    /// Is what has this mark settled?
+    pub fn is_settled(&self, mark: u64) -> bool {
+        self.settled.get(&mark).is_some()
+    }
+
+    /// What has this mark is settled.
+    pub fn settle(&mut self, mark: u64) -> Result<(), Stop>
+        ensures out { result ≡ Err Stop.OutOfSteps → ⊥ }
+    {
+        match self.settled.insert(mark, true) {
+            Ok(_) => Ok(()),
+            Err(_) => Err(Stop::Memory),
+        }
+    }
+
+    /// Enters a term. What comes back is for `leave`.
+    pub fn enter(&mut self) -> bool {
+        let outer = self.bound;
+        self.bound = false;
+        outer
+    }
+
+    /// Leaves a term that was entered.
+    pub fn leave(&mut self, outer: bool) {
+        self.bound = self.bound || outer;
+    }
+
+    /// Something was not tried for what the term at hand stands within.
+    pub fn bind(&mut self) {
+        self.bound = true;
+    }
+
+    /// May what is learnt of the term at hand be used wherever it stands?
+    pub fn is_free(&self) -> bool {
+        !self.bound
+    }
+
+    /// Gives the innermost opening up.
+    pub fn give_up(&mut self) {
+        self.given_up = true;
+    }
+
+    /// Goes on after an opening.
+    pub fn go_on(&mut self) {
+        self.given_up = false;
+    }
+}

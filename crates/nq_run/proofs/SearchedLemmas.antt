@@ -1,0 +1,104 @@
+-- Lemmas in no fragment.
+use Rattle.std.proofs.Common.{◌≡◌, Bool, true, ℕ, List, [], ◌∷◌, ◌++◌, refl, sym, ap, ap₂, subst, inl, inr}
+use Rattle.std.specs.Prelude.{IfOk, MatchOption, Option, Result, Ok, Err, None, Some, Vec}
+use Rattle.std.specs.declared.alloc.AllocError.{AllocError}
+use Rattle.std.specs.declared.alloc.Global.{Global}
+use Rattle.nq_logic.specs.Terms.{Name, Term}
+use Rattle.nq_logic.specs.Formulas.{holds}
+use Rattle.nq_logic.specs.Derivations.{Derivable}
+use Rattle.nq_logic.specs.Histories.{History, RuleClass}
+use Rattle.nq_logic.specs.Histories as logic
+use Rattle.nq_form.specs.Form.{Form}
+use Rattle.nq_log.specs.States.{Adds}
+use Rattle.nq_block.specs.Blocks.{IsBlock}
+use Rattle.nq_comment.specs.Reports.{Answer, Failed, OutOfSteps, ProvedFrom}
+use Rattle.nq_comment.specs.ReportViews.{answer_of, steps_of}
+use Rattle.nq_comment.specs.declared.step.Cause.{Cause}
+use Rattle.nq_comment.specs.declared.step.Cause.TheVariants.{False, NoInduction, Loop, Forbidden, Depth}
+use Rattle.nq_comment.specs.declared.step.ShownStep.{ShownStep}
+use Rattle.nq_comment.specs.declared.answer.FormAnswer.TheVariants as answers
+use Rattle.nq_events.specs.Events as model
+use Rattle.nq_fragments.specs.Fragments.{IsInNoFragment}
+use Rattle.nq_goals.specs.Hints.{first_goal}
+use Rattle.nq_goals.specs.Spent.{IsFalse}
+use Rattle.nq_first_goal.specs.Judging.{IsCauseOf, IsJudged, failing}
+use Rattle.nq_first_goal.specs.declared.judging.Judged.{Judged}
+use Rattle.nq_first_goal.proofs.Judgements.{still_told}
+use Rattle.nq_kernel.specs.declared.verdict.Quick.{Quick}
+use Rattle.nq_answers.specs.Goals.{goal_text}
+use Rattle.nq_answers.specs.Steps.{IsTried, by_falsity, by_want, by_search, not_yet}
+use Rattle.nq_run.specs.HistoryView.{history_of, SessionStands}
+use Rattle.nq_run.specs.Outcome.{AreBlocks}
+use Rattle.nq_run.specs.Sessions.{IsFoundBy, IsUntaken, TriesLemma, found_claims, way_in}
+use Rattle.nq_run.specs.declared.proving.Found.{Found}
+use Rattle.nq_run.specs.declared.proving.Found.TheVariants.{Fragment, Moves}
+use Rattle.nq_run.specs.declared.session.Session.{Session}
+use Rattle.nq_run.specs.declared.session.Taken.{Taken}
+use Rattle.nq_run.proofs.TakingLemmas.{lemma_left, no_way, proved_on}
+
+pub never_fragment : (result : Found) (line : ℕ) (way : Quick) → result ≡ Fragment line way → way_in result ≡ None → ⊥
+never_fragment result line way is other = let some : way_in result ≡ Some way = ap way_in is in absurd cc
+
+-- what moves prove is derivable
+pub moved_derivable : (h : History) (t : Term) (result : Found) (line : ℕ) → result ≡ Moves line → IsFoundBy h t result → Derivable h (holds t)
+moved_derivable h t result line is found = let here : IsInNoFragment h t × Derivable h (holds t) = subst (IsFoundBy h t) is found in here.1
+
+moved_block : (h : History) (name : Name) (t : Term) (result : Found) (line : ℕ) (block : List ℕ) → result ≡ Moves line → AreBlocks h (found_claims name t result) block → IsBlock h (Adds (logic.Lemma name [] t)) block
+moved_block h name t result line block is blocks = subst (λ (f : Found). AreBlocks h (found_claims name t f) block) is blocks
+
+module _ (old : Session) (form : Form) (name : Name) (classes : List RuleClass) (t : Term) (hints : model.Hints) (judged : Judged) (result : Found) (logging : Bool) where
+  abbrev h : History
+  h = history_of old
+
+  abbrev first : List Term
+  first = first_goal h hints t
+
+  module _ (other : way_in result ≡ None) (found : IsFoundBy h t result) (told : IsJudged h hints first judged) (known : Option Cause) (proved : Bool) (known_is : known ≡ failing judged.cause proved) where
+    none : IsInNoFragment h t
+    none = no_way h t result other found
+
+    by_cause : (cause : Cause) → IsCauseOf h hints first cause → IsTried h form hints t (Failed (goal_text first) [] cause)
+    by_cause False falsity = by_falsity (record { no_fragment = none; falsity = falsity; answer_is = refl })
+    by_cause NoInduction spent = by_want (record { no_fragment = none; spent = spent; answer_is = refl })
+    by_cause Loop never = absurd never
+    by_cause Forbidden never = absurd never
+    by_cause Depth never = absurd never
+
+    told_by : (o : Option Cause) → known ≡ o → MatchOption o (IsFalse h first → ⊥) (IsCauseOf h hints first)
+    told_by o is =
+        subst (λ (o : Option Cause). MatchOption o (IsFalse h first → ⊥) (IsCauseOf h hints first)) is
+        (subst (λ (o : Option Cause). MatchOption o (IsFalse h first → ⊥) (IsCauseOf h hints first)) (sym known_is) (still_told h hints first judged.cause proved told.cause))
+
+    -- the first goal is left over
+    pub failed : (cause : Cause) (r : Taken) (steps : Vec ShownStep Global) → known ≡ Some cause → steps.items ≡ [] → IsUntaken old (answer_of (answers.Failed judged.text steps cause)) r
+        → TriesLemma h form name classes t hints logging r
+    failed cause r steps is empty kept =
+        let answer : Answer = Failed (goal_text first) [] cause in
+        let same : answer_of (answers.Failed judged.text steps cause) ≡ answer = ap₂ (λ (x : List ℕ) (s : List ShownStep). Failed x (steps_of s) cause) told.text empty in
+        lemma_left old form name classes t hints answer logging r refl (by_cause cause (told_by (Some cause) is)) (subst (λ (a : Answer). IsUntaken old a r) same kept)
+
+    not_false : known ≡ None → IsFalse h first → ⊥
+    not_false never = told_by None never
+
+    -- steps ran out
+    pub ran_out : (r : Taken) → known ≡ None → IsUntaken old OutOfSteps r → TriesLemma h form name classes t hints logging r
+    ran_out r never kept =
+        lemma_left old form name classes t hints OutOfSteps logging r refl (by_search (record { no_fragment = none; not_false = not_false never; found = inr (inl refl) })) kept
+
+    -- nothing is told yet
+    pub unknown_yet : (o : Result Taken AllocError) → known ≡ None → IfOk o (IsUntaken old (not_yet form)) → IfOk o (TriesLemma h form name classes t hints logging)
+    unknown_yet (Err why) never kept = tt
+    unknown_yet (Ok r) never kept =
+        lemma_left old form name classes t hints (not_yet form) logging r refl (by_search (record { no_fragment = none; not_false = not_false never; found = inr (inr refl) })) kept
+
+    -- moves proved it
+    pub moved : (o : Result Taken AllocError) (line : ℕ) (steps : Vec ShownStep Global) (block : List ℕ) → known ≡ None → result ≡ Moves line → steps.items ≡ []
+        → (logging ≡ true → AreBlocks h (found_claims name t result) block)
+        → IfOk o (λ r. history_of r.session ≡ h ++ logic.Lemma name classes t ∷ []) → IfOk o (λ r. SessionStands r.session)
+        → IfOk o (λ r. r.answer ≡ answers.ProvedFrom judged.text steps) → IfOk o (λ r. r.block ≡ block) → IfOk o (TriesLemma h form name classes t hints logging)
+    moved o line steps block never is empty text later stands says written =
+        let answer : Answer = ProvedFrom (goal_text first) [] in
+        let same : answer_of (answers.ProvedFrom judged.text steps) ≡ answer = ap₂ (λ (x : List ℕ) (s : List ShownStep). ProvedFrom x (steps_of s)) told.text empty in
+        proved_on o h form name classes t hints (answers.ProvedFrom judged.text steps) answer logging block refl
+        (by_search (record { no_fragment = none; not_false = not_false never; found = inl (moved_derivable h t result line is found, refl) }))
+        later stands says same written (λ on. moved_block h name t result line block is (text on))

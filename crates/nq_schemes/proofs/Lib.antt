@@ -1,0 +1,4 @@
+mod KnownLemmas
+mod GrownLemmas
+mod MadeLemmas
+mod SizeLemmas

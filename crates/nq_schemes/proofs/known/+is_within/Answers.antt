@@ -1,0 +1,14 @@
+use Rattle.std.proofs.Common.{◌<◌, get_or, refl, arith, rules}
+use Rattle.nq_bank.specs.declared.node.TermId.{TermId}
+use Rattle.nq_schemes.proofs.KnownLemmas.{argument_in, same_default}
+use Rattle.nq_schemes.proofs.known.+is_within.Goals as goal
+
+pub is_within-requires : goal.is_within-requires
+is_within-requires t c =
+    let none : TermId = record { 0 = 0 } in
+    let ids = c.args-arguments.result.now in
+    let i = c.loop-i.i in
+    let a : TermId = get_or ids i none in
+    let arg = argument_in c.args.history.now c.args.work.now c.args.whole a ids i c.requires c.args-arguments.ensures.parts c.args-arguments.ensures.earlier (omega (arith, c.loop-i-test.true)) (same_default ids i none a (omega (arith, c.loop-i-test.true))) in
+    let earlier : a.0 < c.args.whole.0 = arg.earlier in
+    (search rules, arg.over)

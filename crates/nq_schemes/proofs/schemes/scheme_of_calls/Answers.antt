@@ -1,0 +1,5 @@
+use Rattle.nq_kernel.proofs.GrowingLemmas.{WorkGrows-trans}
+use Rattle.nq_schemes.proofs.schemes.scheme_of_calls.Goals as goal
+
+pub returns-clause-grows : goal.returns-clause-grows
+returns-clause-grows c = WorkGrows-trans c.args.history.now c.args.work.now c.all_opened.new.work c.scheme_of_place.new.work c.all_opened.ensures.grows c.scheme_of_place.ensures.grows

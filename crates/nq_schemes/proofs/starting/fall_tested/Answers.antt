@@ -1,0 +1,25 @@
+use Rattle.nq_kernel.proofs.GrowingLemmas.{WorkGrows-trans}
+use Rattle.nq_lines.proofs.TermLemmas.{term_grown}
+use Rattle.nq_schemes.proofs.MadeLemmas.{leads_stands}
+use Rattle.nq_schemes.proofs.starting.fall_tested.Goals as goal
+
+pub below-requires-clause-right : goal.below-requires-clause-right
+below-requires-clause-right c = term_grown c.args.history.now c.args.work.now c.size_of.new.work c.args.basis.now.measure c.requires.stands c.size_of.ensures.grows c.requires.basis.measure
+
+pub returns-in_err-falls-clause-grows : goal.returns-in_err-falls-clause-grows
+returns-in_err-falls-clause-grows c = (WorkGrows-trans c.args.history.now c.args.work.now c.size_of.new.work c.below.new.work c.size_of.ensures.grows c.below.ensures.grows)
+
+pub returns-in_err-term-clause-grows : goal.returns-in_err-term-clause-grows
+returns-in_err-term-clause-grows c = (WorkGrows-trans c.args.history.now c.args.work.now c.below.new.work c.deny.new.work (WorkGrows-trans c.args.history.now c.args.work.now c.size_of.new.work c.below.new.work c.size_of.ensures.grows c.below.ensures.grows) c.deny.ensures.grows)
+
+pub returns-in_err-line-clause-grows : goal.returns-in_err-line-clause-grows
+returns-in_err-line-clause-grows c = (WorkGrows-trans c.args.history.now c.args.work.now c.deny.new.work c.opposites.new.work (WorkGrows-trans c.args.history.now c.args.work.now c.below.new.work c.deny.new.work (WorkGrows-trans c.args.history.now c.args.work.now c.size_of.new.work c.below.new.work c.size_of.ensures.grows c.below.ensures.grows) c.deny.ensures.grows) c.opposites.ensures.grows)
+
+pub returns-clause-grows : goal.returns-clause-grows
+returns-clause-grows c = (WorkGrows-trans c.args.history.now c.args.work.now c.deny.new.work c.opposites.new.work (WorkGrows-trans c.args.history.now c.args.work.now c.below.new.work c.deny.new.work (WorkGrows-trans c.args.history.now c.args.work.now c.size_of.new.work c.below.new.work c.size_of.ensures.grows c.below.ensures.grows) c.deny.ensures.grows) c.opposites.ensures.grows)
+
+pub opposites-requires-clause-term : goal.opposites-requires-clause-term
+opposites-requires-clause-term c = term_grown c.args.history.now c.below.new.work c.deny.new.work c.in_ok-falls.falls c.below.ensures.grows.stands c.deny.ensures.grows c.in_ok-falls.ensures.over
+
+pub returns-clause-denied : goal.returns-clause-denied
+returns-clause-denied c = record { term = term_grown c.args.history.now c.deny.new.work c.opposites.new.work c.in_ok-term.term c.deny.ensures.grows.stands c.opposites.ensures.grows c.in_ok-term.ensures.over; line = leads_stands c.opposites.new.work c.in_ok-line.line _ _ c.in_ok-line.ensures.line }

@@ -1,0 +1,5 @@
+-- Arguments stand before the call.
+use Rattle.nq_schemes.proofs.terms.+has_variable.Given as goal
+
+abbrev pub decreases-has_variable : goal.decreases-has_variable
+decreases-has_variable l = l.t.0

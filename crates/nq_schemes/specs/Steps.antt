@@ -1,0 +1,35 @@
+-- What the lines of a scheme stand on, and steps before their lines are finished.
+use Rattle.std.specs.Prelude.{◌≡◌, [], ◌∷◌, List, All}
+use Rattle.nq_logic.specs.Terms.{Variable}
+use Rattle.nq_logic.specs.Words.{call1}
+use Rattle.nq_bank.specs.Content.{IsNamed, text_at, term_at}
+use Rattle.nq_rule.specs.declared.induction.InductionStep.{InductionStep}
+use Rattle.nq_history.specs.declared.entry.Entry.{Entry}
+use Rattle.nq_kernel.specs.declared.work.Work.{Work}
+use Rattle.nq_kernel.specs.Growing.{LineStands}
+use Rattle.nq_lines.specs.Lines.{IsTermIn, LineHasOnly}
+use Rattle.nq_lines.specs.Instances.{ArePairsIn}
+use Rattle.nq_lines.specs.declared.facts.Fact.{Fact}
+use Rattle.nq_induct.specs.Claims.{IsShownTruth}
+use Rattle.nq_schemes.specs.Known.{IsOpenedIn}
+use Rattle.nq_schemes.specs.declared.basis.Basis.{Basis}
+
+-- the calls are over the history, and the measure is the size of the variable, which a line shows to be an ordinal
+pub record IsBasisIn (history : List Entry) (work : Work) (b : Basis) : Type 0 where
+  pub opened : All (IsOpenedIn history work) b.opened.items
+  pub variable : IsTermIn history work b.variable
+  pub named : IsNamed work.bank b.name
+  pub names : term_at work.bank b.variable ≡ Variable (text_at work.bank b.name)
+  pub measure : IsTermIn history work b.measure
+  pub ordinal : LineHasOnly work b.ordinal (call1 "ORDINALP" (term_at work.bank b.measure) ∷ [])
+  pub shown : IsShownTruth history work b.shown
+
+-- the step's line stands, and its pairs are distinct variables with terms over the history
+pub record IsStartIn (history : List Entry) (work : Work) (s : InductionStep) : Type 0 where
+  pub line : LineStands work s.line
+  pub pairs : ArePairsIn history work s.pairs.items
+
+-- the term is over the history, and the line stands
+pub record IsDeniedIn (history : List Entry) (work : Work) (f : Fact) : Type 0 where
+  pub term : IsTermIn history work f.term
+  pub line : LineStands work f.line

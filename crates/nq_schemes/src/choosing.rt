@@ -1,0 +1,142 @@
+//! Which draft comes first: one that no other disturbs, with the greatest share of the arguments.
+
+use crate::draft::Draft;
+use crate::merging::merge;
+use crate::subsuming::subsume;
+use crate::terms::{are_apart, function_of};
+use nq_bank::{Bank, TermId, ground};
+use std::alloc::{AllocError, Global};
+
+/// What speaks for a draft.
+#[derive(Clone, Copy, Debug, PartialEq, Eq)]
+struct Weight {
+    /// Whether another draft changes one of its variables, or keeps one that it changes.
+    flawed: bool,
+    /// Its score.
+    score: u64,
+    /// Whether its measured variables become nests of accessors of themselves.
+    by_parts: bool,
+    /// How many of its calls are of functions that are not of the ground history.
+    calls: u64,
+    /// How many variables it changes.
+    changed: u64,
+    /// Its place among those that the goal suggests.
+    order: u64,
+    /// Its place among the drafts.
+    place: usize,
+}
+
+/// Does another draft change a variable that a draft changes, or keep it?
+fn disturbs(other: &Draft, draft: &Draft) -> bool {
+    let changed = draft.changed.as_slice();
+    !other.gone
+        && !(are_apart(changed, other.changed.as_slice())
+            && are_apart(changed, other.still.as_slice()))
+}
+
+/// Is there another draft that disturbs the one at a place?
+fn is_flawed(drafts: &[Draft], i: usize) -> bool {
+    for j in 0..drafts.len() {
+        if i < drafts.len() && i != j && disturbs(&drafts[j], &drafts[i]) {
+            return true;
+        }
+    }
+    false
+}
+
+/// Is a term a call of a function of the ground history?
+fn is_ground_call(bank: &Bank, t: TermId) -> bool {
+    if t.0 < bank.len() {
+        match function_of(bank, t) {
+            Some(f) => f.0 <= ground::ORDINALP.0,
+            None => true,
+        }
+    } else {
+        true
+    }
+}
+
+/// How many of these calls are of functions that are not of the ground history?
+fn own_calls(bank: &Bank, calls: &[TermId]) -> u64 {
+    let mut count: u64 = 0;
+    for t in calls {
+        if !is_ground_call(bank, *t) {
+            count = count.saturating_add(1);
+        }
+    }
+    count
+}
+
+/// The weights of the drafts that are still there.
+fn weights_of(bank: &Bank, drafts: &[Draft]) -> Result<Vec<Weight>, AllocError> {
+    let mut weights = Vec::new(bank.alloc());
+    for place in 0..drafts.len() {
+        let draft = &drafts[place];
+        if !draft.gone {
+            weights.push(Weight {
+                flawed: is_flawed(drafts, place),
+                score: draft.score,
+                by_parts: draft.by_parts,
+                calls: own_calls(bank, draft.calls.as_slice()),
+                changed: draft.changed.len() as u64,
+                order: draft.order,
+                place,
+            })?;
+        }
+    }
+    Ok(weights)
+}
+
+/// Does one draft come before another?
+fn is_before(one: &Weight, other: &Weight) -> bool {
+    if one.flawed != other.flawed {
+        return other.flawed;
+    }
+    if one.score != other.score {
+        return one.score > other.score;
+    }
+    if one.by_parts != other.by_parts {
+        return other.by_parts;
+    }
+    if one.calls != other.calls {
+        return one.calls > other.calls;
+    }
+    if one.changed != other.changed {
+        return one.changed > other.changed;
+    }
+    one.order < other.order
+}
+
+/// How many come before one?
+fn count_before(weights: &[Weight], one: &Weight) -> u32 {
+    let mut count: u32 = 0;
+    for other in weights {
+        if is_before(other, one) {
+            count = count.saturating_add(1);
+        }
+    }
+    count
+}
+
+/// The place of the draft before which so many come.
+fn place_of(weights: &[Weight], turn: u32) -> Option<usize> {
+    for one in weights {
+        if count_before(weights, one) == turn {
+            return Some(one.place);
+        }
+    }
+    None
+}
+
+/// Subsumes and merges drafts, and tells the place of the one of this number.
+pub fn choose(
+    bank: &Bank,
+    drafts: &mut Vec<Draft>,
+    turn: u32,
+) -> Result<Option<usize>, AllocError> {
+    let alloc = bank.alloc();
+    subsume(alloc, drafts)?;
+    merge(alloc, drafts)?;
+    let weights = weights_of(bank, drafts.as_slice())?;
+    Ok(place_of(weights.as_slice(), turn))
+}

@@ -1,0 +1,321 @@
+//! The scheme of a draft, and the schemes that a goal suggests.
+ghost use Rattle.std.specs.Prelude.{◌≡◌, All, IfOk, IfSome, OnOk, Err};
+ghost use Rattle.nq_history.specs.Events.{events_at};
+ghost use Rattle.nq_kernel.specs.Growing.{WorkStands, WorkGrows};
+ghost use Rattle.nq_kernel.specs.Ready.{IsReady};
+ghost use Rattle.nq_lines.specs.Lines.{IsTermIn};
+ghost use Rattle.nq_induct.specs.Schemes.{IsCaseIn, IsSchemeIn};
+ghost use Rattle.nq_schemes.specs.Known.{IsNameOf, IsOpenedIn, with_some};
+ghost use Rattle.nq_schemes.specs.Steps.{IsBasisIn};
+
+use crate::basis::Basis;
+use crate::choosing::choose;
+use crate::draft::{Draft, DraftCase};
+use crate::drafting::drafts_of;
+use crate::gathering::case_of;
+use crate::known::known_name;
+use crate::opened::Opened;
+use crate::openings::all_opened;
+use crate::sizes::{ordinal_line, size_of};
+use crate::suggestion::{sized_argument, suggestions};
+use nq_bank::{Sym, TermId};
+use nq_history::History;
+use nq_induct::{Case, Scheme, known_truth};
+use nq_kernel::{Stop, Work};
+
+/// What the lines of a scheme stand on where the size of this variable falls.
+fn basis_by(
+    work: &mut Work,
+    history: &History,
+    opened: Vec<Opened>,
+    variable: TermId,
+    name: Sym,
+) -> Result<Basis, Stop>
+    requires stands { WorkStands history.now work.old }
+    requires opened { All (IsOpenedIn history.now work.old) opened.items }
+    requires name { IsNameOf history.now work.old variable name }
+    ensures basis { IfOk result (IsBasisIn history.now work.new) }
+    ensures grows { WorkGrows history.now work.old work.new }
+    ensures out { result ≡ Err Stop.OutOfSteps → work.new.counter.used ≡ work.new.counter.limit }
+{
+    let measure = size_of(work, history, variable)?;
+    let ordinal = ordinal_line(work, history, variable)?;
+    let shown = known_truth(work, history)?;
+    Ok(Basis {
+        opened,
+        variable,
+        name,
+        measure,
+        ordinal,
+        shown,
+    })
+}
+
+/// The same, where the variable is known.
+fn basis_of(
+    work: &mut Work,
+    history: &History,
+    opened: Vec<Opened>,
+    variable: TermId,
+) -> Result<Option<Basis>, Stop>
+    requires stands { WorkStands history.now work.old }
+    requires opened { All (IsOpenedIn history.now work.old) opened.items }
+    ensures basis { IfOk result (λ found. IfSome found (IsBasisIn history.now work.new)) }
+    ensures grows { WorkGrows history.now work.old work.new }
+    ensures out { result ≡ Err Stop.OutOfSteps → work.new.counter.used ≡ work.new.counter.limit }
+{
+    match known_name(work, history, opened.as_slice(), variable) {
+        Some(name) => {
+            let basis = basis_by(work, history, opened, variable, name)?;
+            Ok(Some(basis))
+        }
+        None => Ok(None),
+    }
+}
+
+/// One case more, if there is one.
+fn add_case(cases: &mut Vec<Case>, found: Option<Case>) -> Result<(), Stop>
+    ensures more { OnOk result (cases.new.items ≡ with_some cases.old.items found) }
+    ensures memory { result ≡ Err Stop.OutOfSteps → ⊥ }
+{
+    match found {
+        Some(case) => match cases.push(case) {
+            Ok(()) => Ok(()),
+            Err(_) => Err(Stop::Memory),
+        },
+        None => Ok(()),
+    }
+}
+
+/// The cases of a draft with their lines.
+fn cases_of(
+    work: &mut Work,
+    history: &History,
+    basis: &Basis,
+    cases: &[DraftCase],
+) -> Result<Vec<Case>, Stop>
+    requires stands { WorkStands history.now work.old }
+    requires basis { IsBasisIn history.now work.old basis.now }
+    ensures cases { IfOk result (λ v. All (IsCaseIn history.now work.new basis.now.measure) v.items) }
+    ensures grows { WorkGrows history.now work.old work.new }
+    ensures out { result ≡ Err Stop.OutOfSteps → work.new.counter.used ≡ work.new.counter.limit }
+{
+    let mut made = Vec::new(work.bank.alloc());
+    for case in cases {
+        let found = case_of(work, history, basis, case)?;
+        add_case(&mut made, found)?;
+    }
+    Ok(made)
+}
+
+/// The scheme of a draft with its lines, where it has cases.
+fn scheme_by(
+    work: &mut Work,
+    history: &History,
+    basis: &Basis,
+    draft: &Draft,
+) -> Result<Option<Scheme>, Stop>
+    requires stands { WorkStands history.now work.old }
+    requires basis { IsBasisIn history.now work.old basis.now }
+    ensures scheme { IfOk result (λ found. IfSome found (IsSchemeIn history.now work.new)) }
+    ensures grows { WorkGrows history.now work.old work.new }
+    ensures out { result ≡ Err Stop.OutOfSteps → work.new.counter.used ≡ work.new.counter.limit }
+{
+    let cases = cases_of(work, history, basis, draft.cases.as_slice())?;
+    if cases.is_empty() {
+        return Ok(None);
+    }
+    Ok(Some(Scheme {
+        measure: basis.measure,
+        ordinal: basis.ordinal,
+        cases,
+    }))
+}
+
+/// The variable whose size falls in a draft.
+fn variable_of(work: &Work, history: &History, draft: &Draft) -> Result<Option<TermId>, Stop>
+    ensures memory { result ≡ Err Stop.OutOfSteps → ⊥ }
+{
+    match sized_argument(&work.bank, history, draft.calls.as_slice()) {
+        Ok(found) => Ok(found),
+        Err(_) => Err(Stop::Memory),
+    }
+}
+
+/// The scheme of a draft in which the size of this variable falls.
+fn scheme_falling(
+    work: &mut Work,
+    history: &History,
+    opened: Vec<Opened>,
+    draft: &Draft,
+    variable: TermId,
+) -> Result<Option<Scheme>, Stop>
+    requires stands { WorkStands history.now work.old }
+    requires opened { All (IsOpenedIn history.now work.old) opened.items }
+    ensures scheme { IfOk result (λ found. IfSome found (IsSchemeIn history.now work.new)) }
+    ensures grows { WorkGrows history.now work.old work.new }
+    ensures out { result ≡ Err Stop.OutOfSteps → work.new.counter.used ≡ work.new.counter.limit }
+{
+    match basis_of(work, history, opened, variable)? {
+        Some(basis) => scheme_by(work, history, &basis, draft),
+        None => Ok(None),
+    }
+}
+
+/// The scheme of a draft.
+fn scheme_at(
+    work: &mut Work,
+    history: &History,
+    opened: Vec<Opened>,
+    draft: &Draft,
+) -> Result<Option<Scheme>, Stop>
+    requires stands { WorkStands history.now work.old }
+    requires opened { All (IsOpenedIn history.now work.old) opened.items }
+    ensures scheme { IfOk result (λ found. IfSome found (IsSchemeIn history.now work.new)) }
+    ensures grows { WorkGrows history.now work.old work.new }
+    ensures out { result ≡ Err Stop.OutOfSteps → work.new.counter.used ≡ work.new.counter.limit }
+{
+    let found = variable_of(work, history, draft)?;
+    match found {
+        Some(variable) => scheme_falling(work, history, opened, draft, variable),
+        None => Ok(None),
+    }
+}
+
+/// The drafts of calls at hand.
+fn drafts_at(work: &Work, history: &History, opened: &[Opened]) -> Result<Vec<Draft>, Stop>
+    ensures memory { result ≡ Err Stop.OutOfSteps → ⊥ }
+{
+    match drafts_of(&work.bank, history, opened) {
+        Ok(drafts) => Ok(drafts),
+        Err(_) => Err(Stop::Memory),
+    }
+}
+
+/// The place of the draft of this number.
+fn chosen(work: &Work, drafts: &mut Vec<Draft>, turn: u32) -> Result<Option<usize>, Stop>
+    ensures memory { result ≡ Err Stop.OutOfSteps → ⊥ }
+{
+    match choose(&work.bank, drafts, turn) {
+        Ok(place) => Ok(place),
+        Err(_) => Err(Stop::Memory),
+    }
+}
+
+/// The draft at a place, if there is one.
+fn draft_at(drafts: &[Draft], place: Option<usize>) -> Option<&Draft> {
+    match place {
+        Some(i) => drafts.get(i),
+        None => None,
+    }
+}
+
+/// The scheme of the draft at a place.
+fn scheme_of_place(
+    work: &mut Work,
+    history: &History,
+    opened: Vec<Opened>,
+    drafts: &[Draft],
+    place: Option<usize>,
+) -> Result<Option<Scheme>, Stop>
+    requires stands { WorkStands history.now work.old }
+    requires opened { All (IsOpenedIn history.now work.old) opened.items }
+    ensures scheme { IfOk result (λ found. IfSome found (IsSchemeIn history.now work.new)) }
+    ensures grows { WorkGrows history.now work.old work.new }
+    ensures out { result ≡ Err Stop.OutOfSteps → work.new.counter.used ≡ work.new.counter.limit }
+{
+    match draft_at(drafts, place) {
+        Some(draft) => scheme_at(work, history, opened, draft),
+        None => Ok(None),
+    }
+}
+
+/// The scheme of this number among those that calls suggest.
+fn scheme_of_calls(
+    work: &mut Work,
+    history: &History,
+    goal: &[TermId],
+    calls: &[TermId],
+    turn: u32,
+) -> Result<Option<Scheme>, Stop>
+    requires stands { WorkStands history.now work.old }
+    requires ready { IsReady (events_at work.old.bank history.now) }
+    requires goal { All (IsTermIn history.now work.old) goal.now }
+    ensures scheme { IfOk result (λ found. IfSome found (IsSchemeIn history.now work.new)) }
+    ensures grows { WorkGrows history.now work.old work.new }
+    ensures out { result ≡ Err Stop.OutOfSteps → work.new.counter.used ≡ work.new.counter.limit }
+{
+    let opened = all_opened(work, history, goal, calls)?;
+    let mut drafts = drafts_at(work, history, opened.as_slice())?;
+    let place = chosen(work, &mut drafts, turn)?;
+    scheme_of_place(work, history, opened, drafts.as_slice(), place)
+}
+
+/// The calls of a goal that suggest a scheme.
+fn calls_of(work: &Work, history: &History, goal: &[TermId]) -> Result<Vec<TermId>, Stop>
+    ensures memory { result ≡ Err Stop.OutOfSteps → ⊥ }
+{
+    match suggestions(&work.bank, history, goal) {
+        Ok(calls) => Ok(calls),
+        Err(_) => Err(Stop::Memory),
+    }
+}
+
+/// The scheme of this number among those that the term of a hint suggests.
+fn scheme_of_hint(
+    work: &mut Work,
+    history: &History,
+    t: TermId,
+    turn: u32,
+) -> Result<Option<Scheme>, Stop>
+    requires stands { WorkStands history.now work.old }
+    requires ready { IsReady (events_at work.old.bank history.now) }
+    requires hint { IsTermIn history.now work.old t }
+    ensures scheme { IfOk result (λ found. IfSome found (IsSchemeIn history.now work.new)) }
+    ensures grows { WorkGrows history.now work.old work.new }
+    ensures out { result ≡ Err Stop.OutOfSteps → work.new.counter.used ≡ work.new.counter.limit }
+{
+    let calls = [t];
+    scheme_of_calls(work, history, &calls, &calls, turn)
+}
+
+/// The scheme of this number among those that calls of the goal suggest.
+fn scheme_of_goal(
+    work: &mut Work,
+    history: &History,
+    goal: &[TermId],
+    turn: u32,
+) -> Result<Option<Scheme>, Stop>
+    requires stands { WorkStands history.now work.old }
+    requires ready { IsReady (events_at work.old.bank history.now) }
+    requires goal { All (IsTermIn history.now work.old) goal.now }
+    ensures scheme { IfOk result (λ found. IfSome found (IsSchemeIn history.now work.new)) }
+    ensures grows { WorkGrows history.now work.old work.new }
+    ensures out { result ≡ Err Stop.OutOfSteps → work.new.counter.used ≡ work.new.counter.limit }
+{
+    let calls = calls_of(work, history, goal)?;
+    scheme_of_calls(work, history, goal, calls.as_slice(), turn)
+}
+
+/// The scheme of this number, the best being that of number 0, among those that calls of the goal suggest, or that the term of a hint
+/// suggests. There is none where there are no more.
+pub fn scheme_of(
+    work: &mut Work,
+    history: &History,
+    goal: &[TermId],
+    hint: Option<TermId>,
+    turn: u32,
+) -> Result<Option<Scheme>, Stop>
+    requires stands { WorkStands history.now work.old }
+    requires ready { IsReady (events_at work.old.bank history.now) }
+    requires goal { All (IsTermIn history.now work.old) goal.now }
+    requires hint { IfSome hint (IsTermIn history.now work.old) }
+    ensures scheme { IfOk result (λ found. IfSome found (IsSchemeIn history.now work.new)) }
+    ensures grows { WorkGrows history.now work.old work.new }
+    ensures out { result ≡ Err Stop.OutOfSteps → work.new.counter.used ≡ work.new.counter.limit }
+{
+    match hint {
+        Some(t) => scheme_of_hint(work, history, t, turn),
+        None => scheme_of_goal(work, history, goal, turn),
+    }
+}

@@ -1,0 +1,12 @@
+pub mod Joined
+pub mod Names
+pub mod CoupleLemmas
+pub mod CallLemmas
+pub mod SubstitutionLemmas
+pub mod StandingLemmas
+pub mod GeneralLemmas
+pub mod DestructorLemmas
+pub mod EliminationLemmas
+pub mod DropLemmas
+pub mod CandidateLemmas
+pub mod GoalLemmas

@@ -1,0 +1,9 @@
+use Rattle.nq_bank.specs.Content.{text_at}
+use Rattle.nq_bank.specs.Shells.{shells_at}
+use Rattle.nq_stuck.proofs.DestructorLemmas.{accessor_many}
+use Rattle.nq_stuck.proofs.destructors.accesses_variable.Goals as goal
+
+pub returns-in-len2-up : goal.returns-in-len2-up
+returns-in-len2-up c =
+    let bank = c.args.bank.now in
+    accessor_many bank (shells_at bank c.args.shells.now) (text_at bank c.args.f) c.args.arguments.now c.in-len2-up.len_at_least

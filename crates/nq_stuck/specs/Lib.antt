@@ -1,0 +1,5 @@
+pub mod Pairs
+pub mod Calls
+pub mod Candidates
+pub mod Common
+pub mod Destructors

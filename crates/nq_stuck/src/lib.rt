@@ -1,0 +1,35 @@
+//! Whether a goal is stuck: whether it is in normal form, no move leads on from it, and no call in it suggests an induction.
+#![tactic(auto)]
+
+// why a search ends early
+mod fault;
+
+// lists of ids, and the calls of terms
+mod calls;
+mod lists;
+
+// equations
+mod equations;
+
+// the names of shells
+mod shells;
+
+// SUBST
+mod substituting;
+
+// FERT
+mod fertile;
+
+// GEN
+mod common;
+
+// ELIM
+mod destructors;
+
+// IRR
+mod dropping;
+
+// goals
+mod goal;
+
+pub use goal::is_stuck;

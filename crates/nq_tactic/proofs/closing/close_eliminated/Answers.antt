@@ -1,0 +1,7 @@
+use Rattle.nq_search.specs.Goals.{goals_at}
+use Rattle.nq_tactic.proofs.WayLemmas.{hold_children}
+use Rattle.nq_tactic.proofs.closing.close_eliminated.Goals as goal
+
+pub close_elimination-requires-clause-lines : goal.close_elimination-requires-clause-lines
+close_elimination-requires-clause-lines c =
+    hold_children c.args.work.now (goals_at c.args.work.now.bank c.args.elimination.now.nexts.items) c.args.lines.now c.requires.lines

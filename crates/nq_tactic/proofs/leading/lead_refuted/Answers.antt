@@ -1,0 +1,12 @@
+use Rattle.nq_kernel.proofs.GrowingLemmas.{WorkGrows-trans}
+use Rattle.nq_search.proofs.SearchingLemmas.{goal_grown}
+use Rattle.nq_tactic.proofs.leading.lead_refuted.Goals as goal
+
+pub refuted_by-requires-clause-goal : goal.refuted_by-requires-clause-goal
+refuted_by-requires-clause-goal c = goal_grown c.args.history.now c.args.work.now c.truth_line.new.work c.requires.can.stands c.truth_line.ensures.grows c.args.goal.now c.requires.goal
+
+pub lead_by_arithmetic-requires-clause-goal : goal.lead_by_arithmetic-requires-clause-goal
+lead_by_arithmetic-requires-clause-goal c = goal_grown c.args.history.now c.args.work.now c.truth_line.new.work c.requires.can.stands c.truth_line.ensures.grows c.args.goal.now c.requires.goal
+
+pub returns-in-None-clause-grows : goal.returns-in-None-clause-grows
+returns-in-None-clause-grows c = WorkGrows-trans c.args.history.now c.args.work.now c.truth_line.new.work c.lead_by_arithmetic.new.work c.truth_line.ensures.grows c.lead_by_arithmetic.ensures.grows

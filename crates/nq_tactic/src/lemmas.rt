@@ -1,0 +1,155 @@
+//! The search for the line of a lemma. Of each instance that its hints name the negation stands in the goal, and the line that is
+//! found is cut by the instance's own.
+ghost use Rattle.std.specs.Prelude.{◌≡◌, ◌∷◌, [], IfOk, Err, length};
+ghost use Rattle.nq_bank.specs.Content.{term_at, terms_at};
+ghost use Rattle.nq_kernel.specs.Growing.{WorkGrows};
+ghost use Rattle.nq_lines.specs.Facts.{IsFact};
+ghost use Rattle.nq_lines.specs.Lines.{IsTermIn};
+ghost use Rattle.nq_search.specs.Goals.{CanSearch, IsGoalIn};
+ghost use Rattle.nq_search.specs.Searching.{IsFound};
+
+use crate::order::{INDUCTIONS, TURNS};
+use crate::tactic::Waterfall;
+use crate::uses::used;
+use nq_bank::TermId;
+use nq_history::{Hints, History};
+use nq_kernel::{Stop, Work, ready_histories};
+use nq_lines::{Fact, cut, deny};
+use nq_reduce::with_more;
+use nq_search::{Plan, seek};
+
+/// Into how many parts the steps are divided of which the first round gets one.
+const FIRST_PART: u64 = 8;
+
+/// The plan of a search that ends at a count of steps.
+fn plan_until(until: u64) -> Plan {
+    Plan {
+        levels: 60,
+        inductions: INDUCTIONS,
+        turns: TURNS,
+        whole: true,
+        simplified: false,
+        inducted: false,
+        eliminations: 0,
+        until,
+    }
+}
+
+/// Did a round end early enough that there was nothing more to try?
+fn is_exhausted(work: &Work, before: u64) -> bool {
+    let used = work.counter.used().saturating_sub(before);
+    used < work.counter.limit() / 64
+}
+
+/// Seeks a line of a goal: first with few steps, and then with all.
+fn seek_rounds(
+    work: &mut Work,
+    history: &History,
+    hints: &Hints,
+    goal: &[TermId],
+) -> Result<Option<u64>, Stop>
+    requires can { CanSearch history.now hints.now work.old }
+    requires goal { IsGoalIn history.now work.old goal.now }
+    ensures found { IfOk result (IsFound work.new (terms_at work.old.bank goal.now)) }
+    ensures grows { WorkGrows history.now work.old work.new }
+    ensures out { result ≡ Err Stop.OutOfSteps → work.new.counter.used ≡ work.new.counter.limit }
+{
+    ready_histories();
+    let before = work.counter.used();
+    let plan = plan_until(before.saturating_add(work.counter.limit() / FIRST_PART));
+    match seek(work, &mut Waterfall::new(7), history, hints, plan, goal)? {
+        Some(line) => Ok(Some(line)),
+        None => seek_further(work, history, hints, goal, before),
+    }
+}
+
+/// The same, where the first round found none.
+fn seek_further(
+    work: &mut Work,
+    history: &History,
+    hints: &Hints,
+    goal: &[TermId],
+    before: u64,
+) -> Result<Option<u64>, Stop>
+    requires can { CanSearch history.now hints.now work.old }
+    requires goal { IsGoalIn history.now work.old goal.now }
+    ensures found { IfOk result (IsFound work.new (terms_at work.old.bank goal.now)) }
+    ensures grows { WorkGrows history.now work.old work.new }
+    ensures out { result ≡ Err Stop.OutOfSteps → work.new.counter.used ≡ work.new.counter.limit }
+{
+    if is_exhausted(work, before) {
+        return Ok(None);
+    }
+    let plan = plan_until(work.counter.limit());
+    seek(work, &mut Waterfall::new(4), history, hints, plan, goal)
+}
+
+/// Seeks a line of a lemma.
+pub fn seek_lemma(
+    work: &mut Work,
+    history: &History,
+    hints: &Hints,
+    goal: TermId,
+) -> Result<Option<u64>, Stop>
+    requires can { CanSearch history.now hints.now work.old }
+    requires goal { IsTermIn history.now work.old goal }
+    ensures found { IfOk result (IsFound work.new (term_at work.old.bank goal ∷ [])) }
+    ensures grows { WorkGrows history.now work.old work.new }
+    ensures out { result ≡ Err Stop.OutOfSteps → work.new.counter.used ≡ work.new.counter.limit }
+{
+    seek_under(work, history, hints, 0, &[goal])
+}
+
+/// Seeks a line of a goal under the instances of the hints from a place on.
+#[cycle(under)]
+fn seek_under(
+    work: &mut Work,
+    history: &History,
+    hints: &Hints,
+    from: usize,
+    goal: &[TermId],
+) -> Result<Option<u64>, Stop>
+    requires can { CanSearch history.now hints.now work.old }
+    requires goal { IsGoalIn history.now work.old goal.now }
+    ensures found { IfOk result (IsFound work.new (terms_at work.old.bank goal.now)) }
+    ensures grows { WorkGrows history.now work.old work.new }
+    ensures out { result ≡ Err Stop.OutOfSteps → work.new.counter.used ≡ work.new.counter.limit }
+{
+    ready_histories();
+    if from >= hints.instances.len() {
+        return seek_rounds(work, history, hints, goal);
+    }
+    match used(work, history, &hints.instances[from])? {
+        Some(fact) => seek_beside(work, history, hints, from + 1, goal, fact),
+        None => seek_under(work, history, hints, from + 1, goal),
+    }
+}
+
+/// The same, with the denial of a fact beside the goal's literals, which the fact's line cuts away.
+#[cycle(under)]
+fn seek_beside(
+    work: &mut Work,
+    history: &History,
+    hints: &Hints,
+    from: usize,
+    goal: &[TermId],
+    fact: Fact,
+) -> Result<Option<u64>, Stop>
+    requires can { CanSearch history.now hints.now work.old }
+    requires goal { IsGoalIn history.now work.old goal.now }
+    requires fact { IsFact history.now work.old fact }
+    ensures found { IfOk result (IsFound work.new (terms_at work.old.bank goal.now)) }
+    ensures grows { WorkGrows history.now work.old work.new }
+    ensures out { result ≡ Err Stop.OutOfSteps → work.new.counter.used ≡ work.new.counter.limit }
+{
+    ready_histories();
+    let denied = deny(work, history, fact.term)?;
+    let longer = with_more(work, denied, goal)?;
+    match seek_under(work, history, hints, from, longer.as_slice())? {
+        Some(line) => {
+            let line = cut(work, history, fact.line, line, fact.term)?;
+            Ok(Some(line))
+        }
+        None => Ok(None),
+    }
+}

@@ -1,0 +1,41 @@
+//! The prover's own tactic, and the search for the line of a lemma whose hints name instances.
+//!
+//! A goal is simplified, each literal under the negations of the others, and split on its IFs. What is left is refuted by linear
+//! arithmetic, led on by moves and simplified again, or led on by inductions. Each way keeps what makes a line of the goal from lines
+//! of the goals to which it leads (`specs/Ways`); which ways are tried, and in which order, has no contract.
+#![tactic(auto)]
+
+// the ways that lead a goal on
+mod way;
+
+// goals that are simplified
+mod simplifying;
+
+// lines that close goals
+mod arithmetic;
+mod trivial;
+
+// each way, and the way back
+mod closing;
+mod inducting;
+mod leading;
+
+// what is tried, in which order
+mod order;
+mod substitutions;
+
+// the tactic
+mod tactic;
+
+// instances that hints name
+mod uses;
+
+// eliminations
+mod eliminating;
+
+// lemmas
+mod lemmas;
+
+pub use lemmas::seek_lemma;
+pub use tactic::Waterfall;
+pub use way::{Induction, Way};

@@ -1,0 +1,35 @@
+//! Goals that are simplified.
+ghost use Rattle.std.specs.Prelude.{◌≡◌, IfOk, Err};
+ghost use Rattle.nq_bank.specs.Content.{terms_at};
+ghost use Rattle.nq_kernel.specs.Growing.{WorkGrows};
+ghost use Rattle.nq_search.specs.Goals.{CanSearch, IsGoalIn};
+ghost use Rattle.nq_simplify.specs.Simplified.{IsSimplified};
+
+use nq_bank::TermId;
+use nq_history::{Hints, History};
+use nq_kernel::{Stop, Work};
+use nq_literal::LiteralRewriter;
+use nq_ready::own_terms;
+use nq_simplify::{Simplified, make_basis, simplify_goal};
+
+/// How many literals may be rewritten in a row.
+const ROUNDS: u64 = 60;
+
+/// Simplifies a goal.
+pub fn simplified(
+    work: &mut Work,
+    history: &History,
+    hints: &Hints,
+    goal: &[TermId],
+) -> Result<Simplified, Stop>
+    requires can { CanSearch history.now hints.now work.old }
+    requires goal { IsGoalIn history.now work.old goal.now }
+    ensures simplified { IfOk result (IsSimplified history.now work.new (terms_at work.old.bank goal.now)) }
+    ensures grows { WorkGrows history.now work.old work.new }
+    ensures out { result ≡ Err Stop.OutOfSteps → work.new.counter.used ≡ work.new.counter.limit }
+{
+    own_terms();
+    let basis = make_basis(work, history)?;
+    let mut rewriter = LiteralRewriter { hints };
+    simplify_goal(work, history, &basis, &mut rewriter, goal, ROUNDS)
+}
