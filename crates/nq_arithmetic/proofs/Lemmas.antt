@@ -19,15 +19,21 @@ use Rattle.nq_kernel.specs.declared.work.Work.{Work}
 use Rattle.nq_kernel.specs.declared.work.Stop.{Stop}
 use Rattle.nq_kernel.specs.Over.{TermIsIn}
 use Rattle.nq_kernel.specs.Growing.{LineStands, WorkGrows, WorkStands}
+use Rattle.nq_kernel.proofs.HeldLines.{holds_stands}
+use Rattle.nq_lines.specs.declared.facts.Fact.{Fact}
+use Rattle.nq_lines.specs.Facts.{IsFact}
 use Rattle.nq_lines.specs.Lines.{IsTermIn, LineHasOnly}
 use Rattle.nq_lines.proofs.ArgumentLemmas.{argument_over}
 use Rattle.nq_lines.proofs.LineLemmas.{line_grown, only_grown}
 use Rattle.nq_lines.proofs.TermLemmas.{IsOver, term_grown}
+use Rattle.nq_instances.specs.Parts.{IsLine}
 use Rattle.nq_arithmetic.specs.Functions.{IsFunctionOf}
 use Rattle.nq_arithmetic.specs.declared.assumptions.Assumption.{Assumption}
+use Rattle.nq_arithmetic.specs.declared.assumptions.Source.{Source}
+use Rattle.nq_arithmetic.specs.declared.assumptions.Source.TheVariants.{Law, Lemma}
 use Rattle.nq_arithmetic.specs.declared.claims.Claim.{Claim}
 use Rattle.nq_arithmetic.specs.declared.reading.Operands.{Operands}
-use Rattle.nq_arithmetic.specs.Claims.{AreOf, AreOperandsIn, IsAssumptionIn, IsClaimIn, IsOneOf}
+use Rattle.nq_arithmetic.specs.Claims.{AreOf, AreOperandsIn, IsAssumptionIn, IsClaimIn, IsOneOf, IsSourceIn}
 
 -- calls of functions of one and two arguments
 pub one_over : (history : List Entry) (work : Work) (f : Sym) (t : Term) → IsFunctionOf f 1 → IsOver history work t → IsOver history work (call (ground_text f) (t ∷ []))
@@ -59,6 +65,13 @@ pushed history work ids all t is h k = subst (All (IsTermIn history work)) (sym 
 pub fact_pushed : (history : List Entry) (work : Work) (facts all : List Assumption) (a : Assumption) → all ≡ facts ++ a ∷ [] → All (IsAssumptionIn history work) facts → IsAssumptionIn history work a → All (IsAssumptionIn history work) all
 fact_pushed history work facts all a is h k = subst (All (IsAssumptionIn history work)) (sym is) (All-push (IsAssumptionIn history work) facts a h k)
 
+-- a fact that a line shows has a line
+pub fact_line_in : (history : List Entry) (work : Work) (f : Fact) → IsFact history work f → IsLine history work f
+fact_line_in history work f h = record { term = h.term; line = holds_stands work f.line _ h.holds }
+
+pub instance_pushed : (history : List Entry) (work : Work) (fs all : List Fact) (f : Fact) → all ≡ fs ++ f ∷ [] → All (IsLine history work) fs → IsFact history work f → All (IsLine history work) all
+instance_pushed history work fs all f is h k = subst (All (IsLine history work)) (sym is) (All-push (IsLine history work) fs f h (fact_line_in history work f k))
+
 -- an argument of a term that is in
 pub argument_in : (history : List Entry) (work : Work) (t : TermId) (ids : List TermId) (i : ℕ) (d : TermId) → IsTermIn history work t → terms_at work.bank ids ≡ parts_of (term_at work.bank t) → All (λ a. a.0 < t.0) ids → i < length ids → IsTermIn history work (get_or ids i d)
 argument_in history work t ids i d h tells earlier below =
@@ -77,8 +90,18 @@ module _ (history : List Entry) (old new : Work) (stands : WorkStands history ol
   pub claim_grown : (c : Claim) → IsClaimIn history old c → IsClaimIn history new c
   claim_grown c h = record { test = term_grown history old new c.test stands grows h.test; denial = term_grown history old new c.denial stands grows h.denial }
 
+  pub instance_grown : (f : Fact) → IsLine history old f → IsLine history new f
+  instance_grown f h = record { term = term_grown history old new f.term stands grows h.term; line = line_grown history old new f.line stands grows h.line }
+
+  pub instances_grown : (fs : List Fact) → All (IsLine history old) fs → All (IsLine history new) fs
+  instances_grown fs h = λ k d below. instance_grown (get_or fs k d) (h k d below)
+
+  source_grown : (s : Source) → IsSourceIn history old s → IsSourceIn history new s
+  source_grown (Law template at) h = operands_grown at h
+  source_grown (Lemma fact) h = instance_grown fact h
+
   pub assumption_grown : (a : Assumption) → IsAssumptionIn history old a → IsAssumptionIn history new a
-  assumption_grown a h = record { claim = claim_grown a.claim h.claim; at = operands_grown a.at h.at }
+  assumption_grown a h = record { claim = claim_grown a.claim h.claim; source = source_grown a.source h.source }
 
   pub assumptions_grown : (ids : List Assumption) → All (IsAssumptionIn history old) ids → All (IsAssumptionIn history new) ids
   assumptions_grown ids h = λ k d below. assumption_grown (get_or ids k d) (h k d below)

@@ -1,15 +1,18 @@
 //! The line of a goal.
 ghost use Rattle.std.specs.Prelude.{◌≡◌, All, IfOk, IfSome, Err};
 ghost use Rattle.nq_bank.specs.Content.{terms_at};
+ghost use Rattle.nq_history.specs.Events.{events_at};
 ghost use Rattle.nq_kernel.specs.Growing.{LineStands, WorkGrows, WorkStands};
 ghost use Rattle.nq_lines.specs.Lines.{IsTermIn, LineHasOnly};
+ghost use Rattle.nq_lines.specs.OwnTerms.{HasOwnTerms};
 ghost use Rattle.nq_arithmetic.specs.Claims.{AreOperandsIn, IsAssumptionIn};
 
 use crate::assumptions::{Assumption, literals_with};
+use crate::bounding::instances_of;
 use crate::checking::checked;
 use crate::gathering::facts_of;
 use crate::guards::{are_met, fact_line};
-use crate::reading::{Operands, is_call_of, operands_of, terms_in};
+use crate::reading::{Operands, is_call_of, operands_of};
 use crate::refuting::refuted;
 use crate::resolving::resolved;
 use crate::templates::COMPARISON;
@@ -54,15 +57,8 @@ fn by_comparison(
     ensures out { result ≡ Err Stop.OutOfSteps → work.new.counter.used ≡ work.new.counter.limit }
 {
     let literals = literals_with(work, history, goal, assumptions, assumptions.len())?;
-    if are_met(
-        work,
-        history,
-        goal,
-        literals.as_slice(),
-        COMPARISON.guards,
-        at,
-    )? {
-        let line = fact_line(work, history, goal, literals.as_slice(), COMPARISON, at)?;
+    if are_met(work, history, literals.as_slice(), COMPARISON.guards, at)? {
+        let line = fact_line(work, history, literals.as_slice(), COMPARISON, at)?;
         finished(work, history, goal, assumptions, line)
     } else {
         Ok(None)
@@ -161,20 +157,27 @@ fn with_facts(
 }
 
 /// The line of a goal with the facts that are found for it.
-fn by_facts(work: &mut Work, history: &History, goal: &[TermId]) -> Result<Option<u64>, Stop>
+fn by_facts(
+    work: &mut Work,
+    history: &History,
+    hints: &Hints,
+    goal: &[TermId],
+) -> Result<Option<u64>, Stop>
     requires stands { WorkStands history.now work.old }
+    requires ready { HasOwnTerms (events_at work.old.bank history.now) }
     requires goal { All (IsTermIn history.now work.old) goal.now }
     ensures line { IfOk result (λ found. IfSome found (λ n. LineHasOnly work.new n (terms_at work.old.bank goal.now))) }
     ensures grows { WorkGrows history.now work.old work.new }
     ensures out { result ≡ Err Stop.OutOfSteps → work.new.counter.used ≡ work.new.counter.limit }
 {
-    let terms = terms_in(work, history, goal)?;
-    let assumptions = facts_of(work, history, goal, terms.as_slice())?;
+    let instances = instances_of(work, history, hints, goal)?;
+    let assumptions = facts_of(work, history, goal, instances.as_slice())?;
     with_facts(work, history, goal, assumptions.as_slice())
 }
 
 /// A line that has only literals of a goal, by linear arithmetic: of its literals as they are, together with facts about the
-/// terms in it, and for an equation of two numbers by comparing them. None is found under NO-BUILT-IN-ARITH.
+/// terms in it, also by enabled lemmas of the history, and for an equation of two numbers by comparing them. None is found under
+/// NO-BUILT-IN-ARITH.
 pub fn arithmetic_line(
     work: &mut Work,
     history: &History,
@@ -182,6 +185,7 @@ pub fn arithmetic_line(
     goal: &[TermId],
 ) -> Result<Option<u64>, Stop>
     requires stands { WorkStands history.now work.old }
+    requires ready { HasOwnTerms (events_at work.old.bank history.now) }
     requires goal { All (IsTermIn history.now work.old) goal.now }
     ensures line { IfOk result (λ found. IfSome found (λ n. LineHasOnly work.new n (terms_at work.old.bank goal.now))) }
     ensures grows { WorkGrows history.now work.old work.new }
@@ -192,6 +196,6 @@ pub fn arithmetic_line(
     }
     match refuted(work, history, goal)? {
         Some(line) => Ok(checked(work, history, goal, line)),
-        None => by_facts(work, history, goal),
+        None => by_facts(work, history, hints, goal),
     }
 }

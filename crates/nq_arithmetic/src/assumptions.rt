@@ -10,16 +10,24 @@ use crate::template::Template;
 use nq_bank::TermId;
 use nq_history::History;
 use nq_kernel::{Stop, Work};
+use nq_lines::Fact;
 
-/// A fact about two terms.
+/// How the line of a fact is made.
+#[derive(Clone, Copy, Debug)]
+pub enum Source {
+    /// From a law about two terms.
+    Law(Template, Operands),
+    /// From the instance of a lemma, whose conclusion is the fact.
+    Lemma(Fact),
+}
+
+/// A fact.
 #[derive(Clone, Copy, Debug)]
 pub struct Assumption {
     /// The fact.
     pub claim: Claim,
     /// How its line is made.
-    pub template: Template,
-    /// The terms.
-    pub at: Operands,
+    pub source: Source,
 }
 
 /// Is a fact among these?

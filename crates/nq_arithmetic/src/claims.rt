@@ -5,9 +5,9 @@ ghost use Rattle.nq_lines.specs.Lines.{IsTermIn};
 ghost use Rattle.nq_arithmetic.specs.Claims.{AreOperandsIn, IsClaimIn};
 
 use crate::making::make_term;
-use crate::reading::Operands;
+use crate::reading::{Operands, is_call_of, operands_of};
 use crate::template::Pattern;
-use nq_bank::TermId;
+use nq_bank::{TermId, ground};
 use nq_history::History;
 use nq_kernel::{Stop, Work};
 use nq_lines::{cut, deny};
@@ -69,6 +69,56 @@ pub fn claim_at(
         denial,
         denied: pattern.denied,
     })
+}
+
+/// The claim of a term and its NOT.
+fn claim_with_denial(work: &mut Work, history: &History, t: TermId) -> Result<Claim, Stop>
+    requires stands { WorkStands history.now work.old }
+    requires term { IsTermIn history.now work.old t }
+    ensures claim { IfOk result (λ c. IsClaimIn history.now work.new c) }
+    ensures grows { WorkGrows history.now work.old work.new }
+    ensures out { result ≡ Err Stop.OutOfSteps → work.new.counter.used ≡ work.new.counter.limit }
+{
+    let denial = deny(work, history, t)?;
+    Ok(Claim {
+        test: t,
+        denial,
+        denied: false,
+    })
+}
+
+/// The claim of a literal that is known, as a term or as the NOT of one.
+pub fn claim_of(work: &mut Work, history: &History, t: TermId) -> Result<Claim, Stop>
+    requires stands { WorkStands history.now work.old }
+    requires term { IsTermIn history.now work.old t }
+    ensures claim { IfOk result (λ c. IsClaimIn history.now work.new c) }
+    ensures grows { WorkGrows history.now work.old work.new }
+    ensures out { result ≡ Err Stop.OutOfSteps → work.new.counter.used ≡ work.new.counter.limit }
+{
+    if !is_call_of(&work.bank, t, ground::NOT) {
+        return claim_with_denial(work, history, t);
+    }
+    match operands_of(work, history, t) {
+        Some(at) => Ok(Claim {
+            test: at.first,
+            denial: t,
+            denied: true,
+        }),
+        None => claim_with_denial(work, history, t),
+    }
+}
+
+/// The claim of the opposite literal.
+pub fn turned(work: &Work, history: &History, claim: Claim) -> Claim
+    requires { IsClaimIn history.now work.now claim }
+    ensures { IsClaimIn history.now work.now result }
+{
+    let _ = (work.bank.alloc(), history.len());
+    Claim {
+        test: claim.test,
+        denial: claim.denial,
+        denied: !claim.denied,
+    }
 }
 
 /// Joins a line that shows a claim with one that rests on it, which has the opposite literal.

@@ -2,17 +2,20 @@
 ghost use Rattle.std.specs.Prelude.{◌≡◌, ◌∷◌, ◌++◌, [], All, IfOk, IfSome, OnOk, Err};
 ghost use Rattle.nq_kernel.specs.Growing.{WorkGrows, WorkStands};
 ghost use Rattle.nq_lines.specs.Lines.{IsTermIn};
-ghost use Rattle.nq_arithmetic.specs.Claims.{AreOperandsIn, IsAssumptionIn};
+ghost use Rattle.nq_instances.specs.Parts.{IsLine};
+ghost use Rattle.nq_arithmetic.specs.Claims.{AreOperandsIn, IsAssumptionIn, IsClaimIn};
 
-use crate::assumptions::{Assumption, is_assumed, literals_with};
-use crate::claims::claim_at;
-use crate::guards::are_met;
-use crate::reading::{Operands, is_call_of, operands_of};
+use crate::assumptions::{Assumption, Source, is_assumed, literals_with};
+use crate::claims::{Claim, claim_at, claim_of};
+use crate::hypotheses::conclusion_in;
+use crate::reading::{Operands, copied, is_call_of, operands_of, push_new, terms_in};
+use crate::sources::is_source_met;
 use crate::template::Template;
 use crate::templates::TEMPLATES;
 use nq_bank::{Sym, TermId};
 use nq_history::History;
 use nq_kernel::{Stop, Work};
+use nq_lines::Fact;
 
 /// How often facts are looked for, each time with those found before.
 const ROUNDS: u32 = 3;
@@ -82,11 +85,10 @@ fn push(found: &mut Vec<Assumption>, assumption: Assumption) -> Result<(), Stop>
     }
 }
 
-/// Adds a fact about two terms, where its guards are met.
+/// Adds a fact, where that is met on which it rests.
 fn add_met(
     work: &mut Work,
     history: &History,
-    goal: &[TermId],
     literals: &[TermId],
     found: &mut Vec<Assumption>,
     assumption: Assumption,
@@ -99,8 +101,7 @@ fn add_met(
     ensures grows { WorkGrows history.now work.old work.new }
     ensures out { result ≡ Err Stop.OutOfSteps → work.new.counter.used ≡ work.new.counter.limit }
 {
-    let guards = assumption.template.guards;
-    if are_met(work, history, goal, literals, guards, assumption.at)? {
+    if is_source_met(work, history, literals, assumption.source)? {
         push(found, assumption)?;
         Ok(())
     } else {
@@ -112,7 +113,6 @@ fn add_met(
 fn add_fact(
     work: &mut Work,
     history: &History,
-    goal: &[TermId],
     literals: &[TermId],
     found: &mut Vec<Assumption>,
     template: Template,
@@ -132,10 +132,9 @@ fn add_fact(
     } else {
         let assumption = Assumption {
             claim,
-            template,
-            at,
+            source: Source::Law(template, at),
         };
-        add_met(work, history, goal, literals, found, assumption)
+        add_met(work, history, literals, found, assumption)
     }
 }
 
@@ -143,7 +142,6 @@ fn add_fact(
 fn add_at(
     work: &mut Work,
     history: &History,
-    goal: &[TermId],
     literals: &[TermId],
     found: &mut Vec<Assumption>,
     template: Template,
@@ -158,7 +156,7 @@ fn add_at(
     ensures out { result ≡ Err Stop.OutOfSteps → work.new.counter.used ≡ work.new.counter.limit }
 {
     match operands_at(work, history, template, t, found.len()) {
-        Some(at) => add_fact(work, history, goal, literals, found, template, at),
+        Some(at) => add_fact(work, history, literals, found, template, at),
         None => Ok(()),
     }
 }
@@ -167,7 +165,6 @@ fn add_at(
 fn add_in_round(
     work: &mut Work,
     history: &History,
-    goal: &[TermId],
     literals: &[TermId],
     found: &mut Vec<Assumption>,
     round: u32,
@@ -183,7 +180,7 @@ fn add_in_round(
     ensures out { result ≡ Err Stop.OutOfSteps → work.new.counter.used ≡ work.new.counter.limit }
 {
     if (round == 0) == template.guards.is_empty() {
-        add_at(work, history, goal, literals, found, template, t)
+        add_at(work, history, literals, found, template, t)
     } else {
         Ok(())
     }
@@ -194,27 +191,35 @@ fn add_all_at(
     work: &mut Work,
     history: &History,
     goal: &[TermId],
-    literals: &[TermId],
     found: &mut Vec<Assumption>,
     round: u32,
     t: TermId,
 ) -> Result<(), Stop>
     requires stands { WorkStands history.now work.old }
-    requires literals { All (IsTermIn history.now work.old) literals.now }
+    requires goal { All (IsTermIn history.now work.old) goal.now }
     requires found { All (IsAssumptionIn history.now work.old) found.old.items }
     requires term { IsTermIn history.now work.old t }
     ensures found { OnOk result (All (IsAssumptionIn history.now work.new) found.new.items) }
     ensures grows { WorkGrows history.now work.old work.new }
     ensures out { result ≡ Err Stop.OutOfSteps → work.new.counter.used ≡ work.new.counter.limit }
 {
+    let literals = literals_with(work, history, goal, found.as_slice(), found.len())?;
     for template in TEMPLATES {
-        add_in_round(work, history, goal, literals, found, round, *template, t)?;
+        add_in_round(
+            work,
+            history,
+            literals.as_slice(),
+            found,
+            round,
+            *template,
+            t,
+        )?;
     }
     Ok(())
 }
 
-/// Adds the facts about all these terms.
-fn add_round(
+/// Adds the facts of all templates at these terms.
+fn add_laws(
     work: &mut Work,
     history: &History,
     goal: &[TermId],
@@ -230,30 +235,158 @@ fn add_round(
     ensures grows { WorkGrows history.now work.old work.new }
     ensures out { result ≡ Err Stop.OutOfSteps → work.new.counter.used ≡ work.new.counter.limit }
 {
-    let literals = literals_with(work, history, goal, found.as_slice(), found.len())?;
     for t in terms {
-        add_all_at(work, history, goal, literals.as_slice(), found, round, *t)?;
+        add_all_at(work, history, goal, found, round, *t)?;
     }
     Ok(())
 }
 
-/// The facts that are found for a goal in which these terms stand.
+/// Is a fact not there yet, and is there room for it?
+fn is_wanted(found: &[Assumption], claim: Claim) -> bool {
+    found.len() < FACT_LIMIT && !is_assumed(found, claim)
+}
+
+/// Adds the fact of an instance of a lemma, where its hypotheses are met and it is not there yet.
+fn add_instance_of(
+    work: &mut Work,
+    history: &History,
+    goal: &[TermId],
+    found: &mut Vec<Assumption>,
+    instance: Fact,
+    claim: Claim,
+) -> Result<(), Stop>
+    requires stands { WorkStands history.now work.old }
+    requires goal { All (IsTermIn history.now work.old) goal.now }
+    requires found { All (IsAssumptionIn history.now work.old) found.old.items }
+    requires instance { IsLine history.now work.old instance }
+    requires claim { IsClaimIn history.now work.old claim }
+    ensures found { OnOk result (All (IsAssumptionIn history.now work.new) found.new.items) }
+    ensures grows { WorkGrows history.now work.old work.new }
+    ensures out { result ≡ Err Stop.OutOfSteps → work.new.counter.used ≡ work.new.counter.limit }
+{
+    if !is_wanted(found.as_slice(), claim) {
+        return Ok(());
+    }
+    let literals = literals_with(work, history, goal, found.as_slice(), found.len())?;
+    let assumption = Assumption {
+        claim,
+        source: Source::Lemma(instance),
+    };
+    add_met(work, history, literals.as_slice(), found, assumption)
+}
+
+/// Adds the fact of an instance of a lemma: its conclusion.
+fn add_instance(
+    work: &mut Work,
+    history: &History,
+    goal: &[TermId],
+    found: &mut Vec<Assumption>,
+    instance: Fact,
+) -> Result<(), Stop>
+    requires stands { WorkStands history.now work.old }
+    requires goal { All (IsTermIn history.now work.old) goal.now }
+    requires found { All (IsAssumptionIn history.now work.old) found.old.items }
+    requires instance { IsLine history.now work.old instance }
+    ensures found { OnOk result (All (IsAssumptionIn history.now work.new) found.new.items) }
+    ensures grows { WorkGrows history.now work.old work.new }
+    ensures out { result ≡ Err Stop.OutOfSteps → work.new.counter.used ≡ work.new.counter.limit }
+{
+    let conclusion = conclusion_in(work, history, instance.term);
+    let claim = claim_of(work, history, conclusion)?;
+    add_instance_of(work, history, goal, found, instance, claim)
+}
+
+/// Adds the facts of instances of lemmas.
+fn add_instances(
+    work: &mut Work,
+    history: &History,
+    goal: &[TermId],
+    instances: &[Fact],
+    found: &mut Vec<Assumption>,
+) -> Result<(), Stop>
+    requires stands { WorkStands history.now work.old }
+    requires goal { All (IsTermIn history.now work.old) goal.now }
+    requires instances { All (IsLine history.now work.old) instances.now }
+    requires found { All (IsAssumptionIn history.now work.old) found.old.items }
+    ensures found { OnOk result (All (IsAssumptionIn history.now work.new) found.new.items) }
+    ensures grows { WorkGrows history.now work.old work.new }
+    ensures out { result ≡ Err Stop.OutOfSteps → work.new.counter.used ≡ work.new.counter.limit }
+{
+    for instance in instances {
+        add_instance(work, history, goal, found, *instance)?;
+    }
+    Ok(())
+}
+
+/// Adds the facts of instances, and those about all these terms.
+fn add_round(
+    work: &mut Work,
+    history: &History,
+    goal: &[TermId],
+    instances: &[Fact],
+    terms: &[TermId],
+    found: &mut Vec<Assumption>,
+    round: u32,
+) -> Result<(), Stop>
+    requires stands { WorkStands history.now work.old }
+    requires goal { All (IsTermIn history.now work.old) goal.now }
+    requires instances { All (IsLine history.now work.old) instances.now }
+    requires terms { All (IsTermIn history.now work.old) terms.now }
+    requires found { All (IsAssumptionIn history.now work.old) found.old.items }
+    ensures found { OnOk result (All (IsAssumptionIn history.now work.new) found.new.items) }
+    ensures grows { WorkGrows history.now work.old work.new }
+    ensures out { result ≡ Err Stop.OutOfSteps → work.new.counter.used ≡ work.new.counter.limit }
+{
+    add_instances(work, history, goal, instances, found)?;
+    add_laws(work, history, goal, terms, found, round)
+}
+
+/// A goal's literals, and the terms of these instances.
+fn with_instances(
+    work: &Work,
+    history: &History,
+    goal: &[TermId],
+    instances: &[Fact],
+) -> Result<Vec<TermId>, Stop>
+    requires goal { All (IsTermIn history.now work.now) goal.now }
+    requires instances { All (IsLine history.now work.now) instances.now }
+    ensures terms { IfOk result (λ ts. All (IsTermIn history.now work.now) ts.items) }
+    ensures memory { result ≡ Err Stop.OutOfSteps → ⊥ }
+{
+    let mut terms = copied(work, history, goal)?;
+    for instance in instances {
+        push_new(work, history, &mut terms, instance.term)?;
+    }
+    Ok(terms)
+}
+
+/// The facts that are found for a goal, with these instances of lemmas.
 pub fn facts_of(
     work: &mut Work,
     history: &History,
     goal: &[TermId],
-    terms: &[TermId],
+    instances: &[Fact],
 ) -> Result<Vec<Assumption>, Stop>
     requires stands { WorkStands history.now work.old }
     requires goal { All (IsTermIn history.now work.old) goal.now }
-    requires terms { All (IsTermIn history.now work.old) terms.now }
+    requires instances { All (IsLine history.now work.old) instances.now }
     ensures found { IfOk result (λ v. All (IsAssumptionIn history.now work.new) v.items) }
     ensures grows { WorkGrows history.now work.old work.new }
     ensures out { result ≡ Err Stop.OutOfSteps → work.new.counter.used ≡ work.new.counter.limit }
 {
+    let whole = with_instances(work, history, goal, instances)?;
+    let terms = terms_in(work, history, whole.as_slice())?;
     let mut found = Vec::new(work.bank.alloc());
     for round in 0..ROUNDS {
-        add_round(work, history, goal, terms, &mut found, round)?;
+        add_round(
+            work,
+            history,
+            goal,
+            instances,
+            terms.as_slice(),
+            &mut found,
+            round,
+        )?;
     }
     Ok(found)
 }

@@ -1,4 +1,4 @@
-//! What a fact rests on: the guards of its law, which stand in the goal, or follow from it by arithmetic.
+//! What a fact rests on: the guards of its law, which are among the literals at hand, or follow from these by arithmetic.
 ghost use Rattle.std.specs.Prelude.{◌≡◌, All, IfOk, IfSome, Err};
 ghost use Rattle.nq_kernel.specs.Growing.{LineStands, WorkGrows, WorkStands};
 ghost use Rattle.nq_lines.specs.Lines.{IsTermIn};
@@ -37,11 +37,33 @@ fn is_sum(work: &Work, history: &History, literals: &[TermId], claim: Claim) -> 
     are_refuted(work, history, all.as_slice())
 }
 
+/// Is a literal among these, or met in this way? No line is added.
+pub fn is_claim_met(
+    work: &Work,
+    history: &History,
+    literals: &[TermId],
+    way: Way,
+    claim: Claim,
+) -> Result<bool, Stop>
+    requires stands { WorkStands history.now work.now }
+    requires literals { All (IsTermIn history.now work.now) literals.now }
+    requires claim { IsClaimIn history.now work.now claim }
+    ensures memory { result ≡ Err Stop.OutOfSteps → ⊥ }
+{
+    if has_id(literals, literal_of(work, history, claim)) {
+        return Ok(true);
+    }
+    match way {
+        Way::Goal => Ok(false),
+        Way::Number => Ok(is_number(work, history, claim.test)),
+        Way::Sum => is_sum(work, history, literals, claim),
+    }
+}
+
 /// Is a guard met? No line is added.
 fn is_met(
     work: &mut Work,
     history: &History,
-    goal: &[TermId],
     literals: &[TermId],
     guard: Guard,
     at: Operands,
@@ -53,21 +75,13 @@ fn is_met(
     ensures out { result ≡ Err Stop.OutOfSteps → work.new.counter.used ≡ work.new.counter.limit }
 {
     let claim = claim_at(work, history, guard.pattern, at)?;
-    if has_id(goal, literal_of(work, history, claim)) {
-        return Ok(true);
-    }
-    match guard.way {
-        Way::Goal => Ok(false),
-        Way::Number => Ok(is_number(work, history, claim.test)),
-        Way::Sum => is_sum(work, history, literals, claim),
-    }
+    is_claim_met(work, history, literals, guard.way, claim)
 }
 
 /// Is a guard met, where those before it are?
 fn is_met_too(
     work: &mut Work,
     history: &History,
-    goal: &[TermId],
     literals: &[TermId],
     guard: Guard,
     at: Operands,
@@ -80,7 +94,7 @@ fn is_met_too(
     ensures out { result ≡ Err Stop.OutOfSteps → work.new.counter.used ≡ work.new.counter.limit }
 {
     if before {
-        is_met(work, history, goal, literals, guard, at)
+        is_met(work, history, literals, guard, at)
     } else {
         Ok(false)
     }
@@ -90,7 +104,6 @@ fn is_met_too(
 pub fn are_met(
     work: &mut Work,
     history: &History,
-    goal: &[TermId],
     literals: &[TermId],
     guards: &[Guard],
     at: Operands,
@@ -103,7 +116,7 @@ pub fn are_met(
 {
     let mut met = true;
     for guard in guards {
-        met = is_met_too(work, history, goal, literals, *guard, at, met)?;
+        met = is_met_too(work, history, literals, *guard, at, met)?;
     }
     Ok(met)
 }
@@ -186,11 +199,34 @@ fn without_claim(
     }
 }
 
-/// Adds a line without the literal of a guard that does not stand in the goal.
+/// Adds a line without the literal of a claim, where that is not among these literals.
+pub fn without_literal(
+    work: &mut Work,
+    history: &History,
+    literals: &[TermId],
+    way: Way,
+    claim: Claim,
+    line: u64,
+) -> Result<u64, Stop>
+    requires stands { WorkStands history.now work.old }
+    requires literals { All (IsTermIn history.now work.old) literals.now }
+    requires claim { IsClaimIn history.now work.old claim }
+    requires line { LineStands work.old line }
+    ensures line { IfOk result (λ n. LineStands work.new n) }
+    ensures grows { WorkGrows history.now work.old work.new }
+    ensures out { result ≡ Err Stop.OutOfSteps → work.new.counter.used ≡ work.new.counter.limit }
+{
+    if has_id(literals, literal_of(work, history, claim)) {
+        Ok(line)
+    } else {
+        without_claim(work, history, literals, way, claim, line)
+    }
+}
+
+/// Adds a line without the literal of a guard that is not among these literals.
 fn without_guard(
     work: &mut Work,
     history: &History,
-    goal: &[TermId],
     literals: &[TermId],
     guard: Guard,
     at: Operands,
@@ -205,18 +241,13 @@ fn without_guard(
     ensures out { result ≡ Err Stop.OutOfSteps → work.new.counter.used ≡ work.new.counter.limit }
 {
     let claim = claim_at(work, history, guard.pattern, at)?;
-    if has_id(goal, literal_of(work, history, claim)) {
-        Ok(line)
-    } else {
-        without_claim(work, history, literals, guard.way, claim, line)
-    }
+    without_literal(work, history, literals, guard.way, claim, line)
 }
 
-/// Adds the line of a fact, with those of its guards that stand in the goal.
+/// Adds the line of a fact, with those of its guards that are among these literals.
 pub fn fact_line(
     work: &mut Work,
     history: &History,
-    goal: &[TermId],
     literals: &[TermId],
     template: Template,
     at: Operands,
@@ -231,7 +262,7 @@ pub fn fact_line(
     let shown = law_at(work, history, template.law, at)?;
     let mut line = shown;
     for guard in template.guards {
-        line = without_guard(work, history, goal, literals, *guard, at, line)?;
+        line = without_guard(work, history, literals, *guard, at, line)?;
     }
     Ok(line)
 }

@@ -1,5 +1,5 @@
-//! Linear arithmetic over a goal: its literals are refuted, alone or together with facts of arithmetic about the terms that
-//! stand in them.
+//! Linear arithmetic over a goal: its literals are refuted, alone or together with facts about the terms that stand in them.
+//! A fact comes from a law of arithmetic, or is the conclusion of an instance of a lemma of the history.
 //!
 //! What is tried decides nothing: a line is built from what was found, and it counts where each of its literals is one of the
 //! goal's.
@@ -11,6 +11,7 @@ mod tables;
 
 // facts with places for two terms
 mod functions;
+mod patterns;
 mod template;
 mod templates;
 
@@ -27,7 +28,14 @@ mod refuting;
 
 // what a fact rests on
 mod guards;
+mod hypotheses;
 mod numbers;
+mod sources;
+
+// the lemmas that speak of a goal's terms
+mod bounding;
+mod matching;
+mod triggers;
 
 // the facts about a goal
 mod assumptions;

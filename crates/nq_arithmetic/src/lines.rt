@@ -13,7 +13,9 @@ use nq_clause::Pair;
 use nq_history::History;
 use nq_kernel::{Stop, Work};
 use nq_lines::symbol;
-use nq_replay::{first_is_smaller, replay, rest_is_smaller, size_falls};
+use nq_replay::{
+    first_is_smaller, implication_opens, pair_holds, replay, rest_is_smaller, size_falls,
+};
 use std::alloc::AllocError;
 
 /// Adds the line of a law from axioms alone.
@@ -63,6 +65,8 @@ fn uncounted_line(work: &mut Work, history: &History, law: ArithmeticLaw) -> Res
         ArithmeticLaw::Inductive(inductive) => inductive_line(work, history, inductive),
         ArithmeticLaw::FirstIsSmaller => first_is_smaller(work, history),
         ArithmeticLaw::RestIsSmaller => rest_is_smaller(work, history),
+        ArithmeticLaw::ImplicationOpens => implication_opens(work, history),
+        ArithmeticLaw::PairHolds => pair_holds(work, history),
     }
 }
 

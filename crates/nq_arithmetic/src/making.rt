@@ -48,7 +48,7 @@ fn call_one(work: &mut Work, history: &History, f: Sym, a: TermId) -> Result<Ter
 }
 
 /// Makes the call of a function of two arguments.
-fn call_two(
+pub fn call_two(
     work: &mut Work,
     history: &History,
     f: Sym,

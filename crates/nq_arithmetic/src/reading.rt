@@ -6,12 +6,15 @@ ghost use Rattle.nq_lines.specs.Lines.{IsTermIn};
 ghost use Rattle.nq_arithmetic.specs.Claims.{AreOperandsIn};
 
 use crate::making::push_term;
-use nq_bank::{Bank, Node, Sym, TermId};
+use nq_bank::{Bank, Node, Sym, TermId, ground};
 use nq_history::History;
 use nq_kernel::{Stop, Work};
 
 /// The most terms of a goal that are looked at.
 const TERM_LIMIT: usize = 400;
+
+/// The most parts of a conjunction that are looked at.
+const PART_LIMIT: usize = 40;
 
 /// The two terms of which a fact speaks.
 #[derive(Clone, Copy, Debug, PartialEq, Eq)]
@@ -73,7 +76,12 @@ pub fn line_has(work: &Work, history: &History, line: u64, t: TermId) -> bool
 }
 
 /// Adds a term, if it is not there yet.
-fn push_new(work: &Work, history: &History, terms: &mut Vec<TermId>, t: TermId) -> Result<(), Stop>
+pub fn push_new(
+    work: &Work,
+    history: &History,
+    terms: &mut Vec<TermId>,
+    t: TermId,
+) -> Result<(), Stop>
     requires term { IsTermIn history.now work.now t }
     requires terms { All (IsTermIn history.now work.now) terms.old.items }
     ensures terms { OnOk result (All (IsTermIn history.now work.now) terms.new.items) }
@@ -140,6 +148,53 @@ pub fn terms_in(work: &Work, history: &History, goal: &[TermId]) -> Result<Vec<T
         add_arguments_at(work, history, &mut terms, place)?;
     }
     Ok(terms)
+}
+
+/// A term, and the terms that stand in it.
+pub fn terms_of(work: &Work, history: &History, t: TermId) -> Result<Vec<TermId>, Stop>
+    requires stands { WorkStands history.now work.now }
+    requires term { IsTermIn history.now work.now t }
+    ensures terms { IfOk result (λ ts. All (IsTermIn history.now work.now) ts.items) }
+    ensures memory { result ≡ Err Stop.OutOfSteps → ⊥ }
+{
+    let mut whole = Vec::new(work.bank.alloc());
+    push_new(work, history, &mut whole, t)?;
+    terms_in(work, history, whole.as_slice())
+}
+
+/// Adds the two sides of the AND at a place, if there is one, that are not there yet.
+fn add_sides_at(
+    work: &Work,
+    history: &History,
+    parts: &mut Vec<TermId>,
+    place: usize,
+) -> Result<(), Stop>
+    requires stands { WorkStands history.now work.now }
+    requires parts { All (IsTermIn history.now work.now) parts.old.items }
+    ensures parts { OnOk result (All (IsTermIn history.now work.now) parts.new.items) }
+    ensures memory { result ≡ Err Stop.OutOfSteps → ⊥ }
+{
+    if place < parts.len() && is_call_of(&work.bank, parts[place], ground::AND) {
+        let t = parts[place];
+        add_arguments(work, history, parts, t)
+    } else {
+        Ok(())
+    }
+}
+
+/// The parts of a conjunction, with the conjunctions that they stand in before them.
+pub fn parts_in(work: &Work, history: &History, t: TermId) -> Result<Vec<TermId>, Stop>
+    requires stands { WorkStands history.now work.now }
+    requires term { IsTermIn history.now work.now t }
+    ensures parts { IfOk result (λ ts. All (IsTermIn history.now work.now) ts.items) }
+    ensures memory { result ≡ Err Stop.OutOfSteps → ⊥ }
+{
+    let mut parts = Vec::new(work.bank.alloc());
+    push_new(work, history, &mut parts, t)?;
+    for place in 0..PART_LIMIT {
+        add_sides_at(work, history, &mut parts, place)?;
+    }
+    Ok(parts)
 }
 
 /// A copy of terms.

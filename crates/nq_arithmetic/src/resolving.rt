@@ -6,17 +6,16 @@ ghost use Rattle.nq_arithmetic.specs.Claims.{IsAssumptionIn};
 
 use crate::assumptions::{Assumption, literals_with};
 use crate::claims::{join, opposite_of};
-use crate::guards::fact_line;
 use crate::reading::line_has;
+use crate::sources::source_line;
 use nq_bank::TermId;
 use nq_history::History;
 use nq_kernel::{Stop, Work};
 
-/// Adds a line without a fact that it rests on. The guards of the fact may rest on those before it.
+/// Adds a line without a fact that it rests on. The fact may rest on those before it.
 fn without_fact(
     work: &mut Work,
     history: &History,
-    goal: &[TermId],
     literals: &[TermId],
     assumption: Assumption,
     line: u64,
@@ -29,14 +28,7 @@ fn without_fact(
     ensures grows { WorkGrows history.now work.old work.new }
     ensures out { result ≡ Err Stop.OutOfSteps → work.new.counter.used ≡ work.new.counter.limit }
 {
-    let shown = fact_line(
-        work,
-        history,
-        goal,
-        literals,
-        assumption.template,
-        assumption.at,
-    )?;
+    let shown = source_line(work, history, literals, assumption.source)?;
     join(work, history, assumption.claim, shown, line)
 }
 
@@ -65,14 +57,7 @@ fn without_place(
         return Ok(line);
     }
     let literals = literals_with(work, history, goal, assumptions, place)?;
-    without_fact(
-        work,
-        history,
-        goal,
-        literals.as_slice(),
-        assumptions[place],
-        line,
-    )
+    without_fact(work, history, literals.as_slice(), assumptions[place], line)
 }
 
 /// Adds a line without the facts that it rests on, the last ones first.

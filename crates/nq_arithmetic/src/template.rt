@@ -53,6 +53,10 @@ pub enum ArithmeticLaw {
     FirstIsSmaller,
     /// `(NOT (LISTP X))`, `(LESSP (COUNT (CDR X)) (COUNT X))`.
     RestIsSmaller,
+    /// `Y`, `(NOT X)`, `(NOT (IMPLIES X Y))`.
+    ImplicationOpens,
+    /// `(NOT Y)`, `(NOT X)`, `(AND X Y)`.
+    PairHolds,
 }
 
 /// A fact about the arguments of a call, or about those of the call that is its first argument.

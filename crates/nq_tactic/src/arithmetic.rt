@@ -1,8 +1,10 @@
 //! Goals that arithmetic proves.
 ghost use Rattle.std.specs.Prelude.{◌≡◌, IfOk, IfSome, Err};
 ghost use Rattle.nq_bank.specs.Content.{terms_at};
+ghost use Rattle.nq_history.specs.Events.{events_at};
 ghost use Rattle.nq_kernel.specs.Growing.{WorkStands, WorkGrows};
 ghost use Rattle.nq_lines.specs.Lines.{LineHasOnly};
+ghost use Rattle.nq_lines.specs.OwnTerms.{HasOwnTerms};
 ghost use Rattle.nq_search.specs.Goals.{IsGoalIn};
 
 use nq_arithmetic::{arithmetic_line, kind_line};
@@ -29,6 +31,7 @@ fn linear_line(
     goal: &[TermId],
 ) -> Result<Option<u64>, Stop>
     requires stands { WorkStands history.now work.old }
+    requires ready { HasOwnTerms (events_at work.old.bank history.now) }
     requires goal { IsGoalIn history.now work.old goal.now }
     ensures line { IfOk result (λ found. IfSome found (λ n. LineHasOnly work.new n (terms_at work.new.bank goal.now))) }
     ensures grows { WorkGrows history.now work.old work.new }
@@ -45,6 +48,7 @@ pub fn number_line(
     goal: &[TermId],
 ) -> Result<Option<u64>, Stop>
     requires stands { WorkStands history.now work.old }
+    requires ready { HasOwnTerms (events_at work.old.bank history.now) }
     requires goal { IsGoalIn history.now work.old goal.now }
     ensures line { IfOk result (λ found. IfSome found (λ n. LineHasOnly work.new n (terms_at work.new.bank goal.now))) }
     ensures grows { WorkGrows history.now work.old work.new }

@@ -16,6 +16,7 @@ use nq_bank::TermId;
 use nq_history::{Hints, History};
 use nq_kernel::{MoveKind, Stop, Work};
 use nq_moves::{Moved, fertilize_move, generalize_move, irrelevant_move, substitute_move};
+use nq_ready::own_terms;
 use nq_search::{Led, Plan};
 
 /// Leads a goal on by its simplification, and with this plan.
@@ -86,6 +87,7 @@ fn lead_by_arithmetic(
     ensures grows { WorkGrows history.now work.old work.new }
     ensures out { result ≡ Err Stop.OutOfSteps → work.new.counter.used ≡ work.new.counter.limit }
 {
+    own_terms();
     match number_line(work, history, hints, goal)? {
         Some(line) => Ok(Some(refuted_by(work, history, goal, line, plan))),
         None => Ok(None),

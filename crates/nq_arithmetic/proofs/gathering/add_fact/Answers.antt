@@ -12,7 +12,7 @@ pub add_met-requires-clause-found : goal.add_met-requires-clause-found
 add_met-requires-clause-found c = assumptions_grown c.args.history.now c.args.work.now c.claim_at.new.work c.requires.stands c.claim_at.ensures.grows c.args.found.now.items c.requires.found
 
 pub add_met-requires-clause-assumption : goal.add_met-requires-clause-assumption
-add_met-requires-clause-assumption c = record { claim = c.in_ok-claim.ensures.claim; at = operands_grown c.args.history.now c.args.work.now c.claim_at.new.work c.requires.stands c.claim_at.ensures.grows c.args.at c.requires.at }
+add_met-requires-clause-assumption c = record { claim = c.in_ok-claim.ensures.claim; source = operands_grown c.args.history.now c.args.work.now c.claim_at.new.work c.requires.stands c.claim_at.ensures.grows c.args.at c.requires.at }
 
 pub returns-else-is_assumed-clause-grows : goal.returns-else-is_assumed-clause-grows
 returns-else-is_assumed-clause-grows c = (WorkGrows-trans c.args.history.now c.args.work.now c.claim_at.new.work c.add_met.new.work c.claim_at.ensures.grows c.add_met.ensures.grows)
