@@ -34,17 +34,11 @@ use Rattle.nq_measures.proofs.SearchLemmas.{judged_found, fall_found}
 
 pub ok_told : {X Y : Type 0} (P : X → Type 0) (r : Result X Y) (x : X) → r ≡ Ok x → IfOk r P → P x
 ok_told P (Err y) x e w = absurd cc
-ok_told P (Ok z) x e w = subst P (same z x e) w
-  where
-    same : {X Y : Type 0} (a b : X) → Ok {X} {Y} a ≡ Ok b → a ≡ b
-    same a b e = cc
+ok_told P (Ok z) x e w = let same : z ≡ x = cc in subst P same w
 
 pub err_told : {X Y : Type 0} (P : Y → Type 0) (r : Result X Y) (y : Y) → r ≡ Err y → IfErr r P → P y
 err_told P (Ok x) y e w = absurd cc
-err_told P (Err z) y e w = subst P (same z y e) w
-  where
-    same : {X Y : Type 0} (a b : Y) → Err {X} {Y} a ≡ Err b → a ≡ b
-    same a b e = cc
+err_told P (Err z) y e w = let same : z ≡ y = cc in subst P same w
 
 pub err_weaker : {X Y : Type 0} (r : Result X Y) (P Q : Y → Type 0) → ((y : Y) → P y → Q y) → IfErr r P → IfErr r Q
 err_weaker (Ok x) P Q f w = tt
@@ -75,7 +69,7 @@ left_told work t these (Err l) m ids same literals is are stand =
       stand = subst (λ (v : Vec TermId Global). All (Stands work.bank) v.items) (sym literals) stand;
     }
 
-id_later : (old new : Content) (m : TermId) → Grows old new → Stands old m → IsIdOf new m (term_at old m)
+pub id_later : (old new : Content) (m : TermId) → Grows old new → Stands old m → IsIdOf new m (term_at old m)
 id_later old new m up stands = record { stands = Stands-grown old new m up stands; denotes = term_at-grown old new m up stands }
 
 pub ordinal_left : (history : List Entry) (old : Content) (mid new : Work) (m : TermId) (ids : Vec TermId Global) (r : Result ℕ Left) → Grows old mid.bank → WorkGrows history mid new → Stands old m → terms_at mid.bank ids.items ≡ ordinal_clause (term_at old m) → All (Stands mid.bank) ids.items →

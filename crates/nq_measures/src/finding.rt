@@ -218,9 +218,7 @@ fn find_among<P: Prover>(
     let mut left = Vec::new(work.bank.alloc());
     for place in 0..tried.len() {
         let measure = tried[place];
-        match try_measure(
-            prover, work, history, law, f, formals, measure, sites,
-        )? {
+        match try_measure(prover, work, history, law, f, formals, measure, sites)? {
             Ok(evidence) => {
                 let Evidence { ordinal, falls } = evidence;
                 let found = Some(Admitting {

@@ -34,7 +34,7 @@ mod finding;
 
 pub use finding::{Admitting, Sought, find_measure};
 pub use judging::{Judged, Why, judge, judge_fall};
-pub use left::Left;
 pub use laws::{admitting_is_measure, measure_falls};
+pub use left::Left;
 pub use openings::{nest_of, open_nest};
 pub use tried::tried_measures;

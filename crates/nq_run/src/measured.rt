@@ -75,11 +75,7 @@ impl Session {
             history,
         };
         match sought.kept {
-            None => Ok(session.untaken(
-                alloc,
-                given.mark,
-                FormAnswer::Unmeasured(sought.trials),
-            )),
+            None => Ok(session.untaken(alloc, given.mark, FormAnswer::Unmeasured(sought.trials))),
             Some(kept) => session.measured(
                 alloc,
                 prover,

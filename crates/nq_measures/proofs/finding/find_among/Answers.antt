@@ -39,13 +39,13 @@ try_measure-requires-clause-sites g c =
     let trial = c.requires.trials c.loop-place.place none c.loop-place-test.true in
     sites_still c.args.history.now c.args.work.now.bank c.loop-place.work.bank c.args.f c.args.formals.now c.loop-place.invariant.grows.bank c.requires.searching.stands.history trial.function trial.formals_named c.args.sites.now c.requires.sites
 
-pub returns-in_err-try_measure-clause-grows : goal.returns-in_err-try_measure-clause-grows
-returns-in_err-try_measure-clause-grows g c = WorkGrows-trans c.args.history.now c.args.work.now c.loop-place.work c.try_measure.new.work c.loop-place.invariant.grows c.try_measure.ensures.grows
+pub returns-in_err-evidence-clause-grows : goal.returns-in_err-evidence-clause-grows
+returns-in_err-evidence-clause-grows g c = WorkGrows-trans c.args.history.now c.args.work.now c.loop-place.work c.try_measure.new.work c.loop-place.invariant.grows c.try_measure.ensures.grows
 
 pub returns-in-Ok-clause-found : goal.returns-in-Ok-clause-found
 returns-in-Ok-clause-found g c =
     let none : TermId = record { 0 = 0 } in
-    record { told = got c.args.tried.now c.loop-place.place none c.loop-place-test.true; evidence = ok_told _ c.in_ok-try_measure.field-0 c.in-Ok.evidence c.in-Ok.is c.in_ok-try_measure.ensures.found }
+    record { told = got c.args.tried.now c.loop-place.place none c.loop-place-test.true; evidence = ok_told _ c.in_ok-evidence.field-0 c.in-Ok.evidence c.in-Ok.is c.in_ok-evidence.ensures.found }
 
 pub returns-in-Ok-clause-grows : goal.returns-in-Ok-clause-grows
 returns-in-Ok-clause-grows g c = WorkGrows-trans c.args.history.now c.args.work.now c.loop-place.work c.try_measure.new.work c.loop-place.invariant.grows c.try_measure.ensures.grows
@@ -57,7 +57,7 @@ loop-place-preserved g c =
     let old = c.args.work.now.bank in
     let mid = c.loop-place.work.bank in
     let new = c.try_measure.new.work in
-    let here = err_told _ c.in_ok-try_measure.field-0 c.in-Err.first c.in-Err.is c.in_ok-try_measure.ensures.plain in
+    let here = err_told _ c.in_ok-evidence.field-0 c.in-Err.first c.in-Err.is c.in_ok-evidence.ensures.plain in
     record {
       grows = WorkGrows-trans c.args.history.now c.args.work.now c.loop-place.work c.try_measure.new.work c.loop-place.invariant.grows c.try_measure.ensures.grows;
       searching = c.try_measure.ensures.searching;
@@ -68,7 +68,7 @@ loop-place-preserved g c =
           left_next new old (text_at old c.args.f) (texts_at old c.args.formals.now) (sites_at old c.args.sites.now) c.args.tried.now c.loop-place.place none c.loop-place.left.items c.push.new.self.items c.in-Err.first c.loop-place-test.true
           (are_left_grown c.args.history.now c.loop-place.work new (text_at old c.args.f) (texts_at old c.args.formals.now) (sites_at old c.args.sites.now) (terms_at old (take c.loop-place.place c.args.tried.now)) c.loop-place.left.items c.loop-place.invariant.grows.stands c.try_measure.ensures.grows c.loop-place.invariant.left)
           (left_before c.args.history.now c.args.work.now c.loop-place.work new c.args.f c.args.formals.now (get_or c.args.tried.now c.loop-place.place none) c.args.sites.now c.requires.searching.stands c.loop-place.invariant.grows c.try_measure.ensures.grows trial
-          (all_stand c.args.history.now old c.args.f c.args.formals.now c.args.sites.now c.requires.sites) c.in-Err.first (err_told _ c.in_ok-try_measure.field-0 c.in-Err.first c.in-Err.is c.in_ok-try_measure.ensures.left))
+          (all_stand c.args.history.now old c.args.f c.args.formals.now c.args.sites.now c.requires.sites) c.in-Err.first (err_told _ c.in_ok-evidence.field-0 c.in-Err.first c.in-Err.is c.in_ok-evidence.ensures.left))
           c.in_ok-push-in-Err.ensures.items;
     }
 

@@ -23,11 +23,11 @@ pub returns-in_err-mentions_at-clause-searching : goal.returns-in_err-mentions_a
 returns-in_err-mentions_at-clause-searching g c =
     searching_on (g.P.Prover.has_learnt c.args.prover.now) (g.P.Prover.has_learnt c.args.prover.now) c.args.history.now c.args.work.now c.find_by_size.new.work c.held_work.ensures.grown c.requires.searching c.requires.searching.learnt c.find_by_size.ensures.grows.grows
 
-pub returns-in_err-left-then-branch-clause-grows : goal.returns-in_err-left-then-branch-clause-grows
-returns-in_err-left-then-branch-clause-grows g c = WorkGrows-trans c.args.history.now c.args.work.now c.find_by_size.new.work c.leave_ordinal.new.work c.find_by_size.ensures.grows.grows c.leave_ordinal.ensures.grows.grows
+pub returns-in_err-left-clause-grows : goal.returns-in_err-left-clause-grows
+returns-in_err-left-clause-grows g c = WorkGrows-trans c.args.history.now c.args.work.now c.find_by_size.new.work c.leave_ordinal.new.work c.find_by_size.ensures.grows.grows c.leave_ordinal.ensures.grows.grows
 
-pub returns-in_err-left-then-branch-clause-searching : goal.returns-in_err-left-then-branch-clause-searching
-returns-in_err-left-then-branch-clause-searching g c =
+pub returns-in_err-left-clause-searching : goal.returns-in_err-left-clause-searching
+returns-in_err-left-clause-searching g c =
     searching_on (g.P.Prover.has_learnt c.args.prover.now) (g.P.Prover.has_learnt c.args.prover.now) c.args.history.now c.args.work.now c.leave_ordinal.new.work c.held_work.ensures.grown c.requires.searching c.requires.searching.learnt
     (WorkGrows-trans c.args.history.now c.args.work.now c.find_by_size.new.work c.leave_ordinal.new.work c.find_by_size.ensures.grows.grows c.leave_ordinal.ensures.grows.grows)
 
@@ -43,7 +43,7 @@ pub returns-then-branch-clause-left : goal.returns-then-branch-clause-left
 returns-then-branch-clause-left g c =
     let mid = c.find_by_size.new.work.bank in
     let new = c.leave_ordinal.new.work in
-    inl (subst (λ (t : Term). IsLeft new t (ordinal_clause t) c.in_ok-left-then-branch.left) (term_at-grown c.args.work.now.bank mid c.args.measure c.find_by_size.ensures.grows.grows.bank c.requires.trial.measure_stands) c.in_ok-left-then-branch.ensures.left)
+    inl (subst (λ (t : Term). IsLeft new t (ordinal_clause t) c.in_ok-left.left) (term_at-grown c.args.work.now.bank mid c.args.measure c.find_by_size.ensures.grows.grows.bank c.requires.trial.measure_stands) c.in_ok-left.ensures.left)
 
 pub prove_measure-requires-clause-searching : goal.prove_measure-requires-clause-searching
 prove_measure-requires-clause-searching g c =
