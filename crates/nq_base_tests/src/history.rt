@@ -1,7 +1,10 @@
 //! Histories.
+ghost use Rattle.nq_history.specs.Events.{HistoryStands};
+
 use crate::asked::has_name;
-use nq_bank::{Bank, Shell, Sym, ground, ground_name};
+use nq_bank::{Bank, Sym, ground, ground_name};
 use nq_history::{Entry, EntryKind, History, PushFault};
+use std::process::Abort;
 use std::test::Fail;
 
 #[test]
@@ -29,83 +32,39 @@ fn names_in_use_are_told(rt: HostRuntime) -> Result<(), Fail> {
     Ok(())
 }
 
-#[test]
-fn a_toggle_is_added(rt: HostRuntime) -> Result<(), Fail> {
-    let mut bank = Bank::new(rt.alloc())?;
-    let name = bank.name(b"PLUS-OFF")?;
-    let mut history = History::ground(&mut bank)?;
-    assert!(rt; has_name(&bank, name));
-    let old = ground_name(&bank, ground::PLUS);
+/// Switches PLUS off, by an event of this name.
+fn switch_off(
+    rt: &impl Abort,
+    bank: &Bank,
+    history: &mut History,
+    name: Sym,
+) -> Result<(), PushFault>
+    requires { HistoryStands bank.now history.old }
+{
+    assert!(rt; has_name(bank, name));
+    let old = ground_name(bank, ground::PLUS);
     let entry = Entry {
         name,
         kind: EntryKind::Toggle(old, true),
         mark: bank.mark(),
     };
-    assert_eq!(rt; history.push(&bank, entry), Ok(()));
-    assert_eq!(rt; history.len(), 39);
-    assert!(rt; !history.enabled(ground::PLUS));
-    assert!(rt; history.enabled(ground::TIMES));
-    Ok(())
+    history.push(bank, entry)
 }
 
 #[test]
-fn a_name_in_use_is_refused(rt: HostRuntime) -> Result<(), Fail> {
-    let mut bank = Bank::new(rt.alloc())?;
-    let mut history = History::ground(&mut bank)?;
-    let old = ground_name(&bank, ground::PLUS);
-    let entry = Entry {
-        name: old,
-        kind: EntryKind::Toggle(old, true),
-        mark: bank.mark(),
-    };
-    assert_eq!(rt; history.push(&bank, entry), Err(PushFault::NameInUse));
-    assert!(rt; history.enabled(ground::PLUS));
-    Ok(())
-}
-
-/// Are these the constructors of the shells, in their order?
-fn has_constructors(shells: &[Shell], constructors: &[Sym]) -> bool {
-    if shells.len() != constructors.len() {
-        return false;
+fn a_toggle_is_added_under_a_new_name(rt: HostRuntime) -> Result<(), Fail> {
+    for (text, answer, length) in [
+        (b"PLUS-OFF".as_slice(), Ok(()), 39),
+        (b"PLUS", Err(PushFault::NameInUse), 38),
+    ] {
+        let mut bank = Bank::new(rt.alloc())?;
+        let name = bank.name(text)?;
+        let mut history = History::ground(&mut bank)?;
+        let found = switch_off(&rt, &bank, &mut history, name);
+        assert_eq!(rt; found, answer);
+        assert_eq!(rt; history.len(), length);
+        assert!(rt; history.enabled(ground::PLUS) == answer.is_err());
+        assert!(rt; history.enabled(ground::TIMES));
     }
-    for (i, shell) in shells.iter().enumerate() {
-        if shell.constructor.0 != constructors[i].0 {
-            return false;
-        }
-    }
-    true
-}
-
-#[test]
-fn a_shell_is_listed_until_it_is_undone(rt: HostRuntime) -> Result<(), Fail> {
-    let mut bank = Bank::new(rt.alloc())?;
-    let constructor = bank.name(b"BOX")?;
-    let recognizer = bank.name(b"BOXP")?;
-    let mut history = History::ground(&mut bank)?;
-    let ground_shells = [ground::ADD1, ground::CONS, ground::PACK, ground::MINUS];
-    assert!(rt; has_constructors(history.shells(), &ground_shells));
-    assert!(rt; has_name(&bank, constructor) && has_name(&bank, recognizer));
-    let shell = Shell {
-        constructor,
-        base: None,
-        recognizer,
-        parts: Vec::new(rt.alloc()),
-    };
-    let entry = Entry {
-        name: constructor,
-        kind: EntryKind::Shell(shell),
-        mark: bank.mark(),
-    };
-    history.push(&bank, entry)?;
-    let shells = [
-        ground::ADD1,
-        ground::CONS,
-        ground::PACK,
-        ground::MINUS,
-        constructor,
-    ];
-    assert!(rt; has_constructors(history.shells(), &shells));
-    assert_eq!(rt; history.undo_back_through(&mut bank, constructor), Ok(1));
-    assert!(rt; has_constructors(history.shells(), &ground_shells));
     Ok(())
 }

@@ -3,8 +3,9 @@ ghost use Rattle.std.specs.Prelude.{nat_lt, if◌then◌else◌, Some, None, len
 
 use crate::texts::{forms_of, joined};
 use bumpalo::Bump;
-use nq_abbrev::{Arities, TranslateFault, translate};
+use nq_abbrev::{Arities, Refusal, TranslateFault, translate};
 use nq_bank::{Bank, Sym};
+use nq_sexp::Sexp;
 use std::alloc::{AllocError, Global};
 use std::test::Fail;
 
@@ -32,37 +33,48 @@ impl<'a> Arities for Functions<'a> {
     }
 }
 
-/// What is told of the one form of a text: why it is refused, or nothing where it has a term.
+/// The code and the words of a refusal.
+fn told(alloc: Global, refusal: Refusal<'_>) -> Result<Vec<u8>, AllocError> {
+    let words = refusal.words(alloc)?;
+    joined(alloc, refusal.code(), words.as_slice())
+}
+
+/// What is told of a form: why it is refused, or nothing where it has a term.
+fn told_of_form(alloc: Global, form: &Sexp<'_>) -> Result<Vec<u8>, Fail> {
+    let mut bank = Bank::new(alloc)?;
+    let functions = Functions { arities: &GROUND };
+    match translate(&mut bank, form, &functions) {
+        Ok(_) => Ok(Vec::new(alloc)),
+        Err(TranslateFault::Refused(refusal)) => Ok(told(alloc, refusal)?),
+        Err(TranslateFault::Memory) => Ok(b"memory".to_vec(alloc)?),
+    }
+}
+
+/// The same of the one form of a text.
 fn told_of(alloc: Global, text: &[u8]) -> Result<Vec<u8>, Fail> {
     let arena = Bump::new(alloc);
-    let mut bank = Bank::new(alloc)?;
     let forms = forms_of(alloc, &arena, text)?;
-    let functions = Functions { arities: &GROUND };
     match forms.as_slice() {
-        [form] => match translate(&mut bank, form, &functions) {
-            Ok(_) => Ok(Vec::new(alloc)),
-            Err(TranslateFault::Refused(refusal)) => {
-                let words = refusal.words(alloc)?;
-                Ok(joined(alloc, refusal.code(), words.as_slice())?)
-            }
-            Err(TranslateFault::Memory) => Ok(b"memory".to_vec(alloc)?),
-        },
+        [form] => told_of_form(alloc, form),
         _ => Ok(b"not one form".to_vec(alloc)?),
     }
+}
+
+/// Do two forms have one term?
+fn have_one_term(alloc: Global, written: &Sexp<'_>, meant: &Sexp<'_>) -> Result<bool, Fail> {
+    let mut bank = Bank::new(alloc)?;
+    let functions = Functions { arities: &GROUND };
+    let written = translate(&mut bank, written, &functions);
+    let meant = translate(&mut bank, meant, &functions);
+    Ok(written.is_ok() && written == meant)
 }
 
 /// Do the two forms of a text have one term?
 fn are_same(alloc: Global, text: &[u8]) -> Result<bool, Fail> {
     let arena = Bump::new(alloc);
-    let mut bank = Bank::new(alloc)?;
     let forms = forms_of(alloc, &arena, text)?;
-    let functions = Functions { arities: &GROUND };
     match forms.as_slice() {
-        [written, meant] => {
-            let written = translate(&mut bank, written, &functions);
-            let meant = translate(&mut bank, meant, &functions);
-            Ok(written.is_ok() && written == meant)
-        }
+        [written, meant] => have_one_term(alloc, written, meant),
         _ => Ok(false),
     }
 }
@@ -192,6 +204,25 @@ fn add_variable(alloc: Global, text: &mut Vec<u8>, number: u64) -> Result<(), Al
     text.extend_from_slice(number.to_string(alloc)?.as_bytes())
 }
 
+/// Begins a LET that binds the next variable to a call of this one.
+fn open_let(
+    alloc: Global,
+    text: &mut Vec<u8>,
+    number: u64,
+    f: &[u8],
+    twice: bool,
+) -> Result<(), AllocError> {
+    text.extend_from_slice(b"(LET ((")?;
+    add_variable(alloc, text, number.saturating_add(1))?;
+    text.extend_from_slice(b" (")?;
+    text.extend_from_slice(f)?;
+    add_variable(alloc, text, number)?;
+    if twice {
+        add_variable(alloc, text, number)?;
+    }
+    text.extend_from_slice(b"))) ")
+}
+
 /// Nested LETs, each of which binds the next variable to a call of the one before it, and a body in them.
 fn lets(
     alloc: Global,
@@ -202,15 +233,7 @@ fn lets(
 ) -> Result<Vec<u8>, AllocError> {
     let mut text = Vec::new(alloc);
     for k in 0..count {
-        text.extend_from_slice(b"(LET ((")?;
-        add_variable(alloc, &mut text, k.saturating_add(1))?;
-        text.extend_from_slice(b" (")?;
-        text.extend_from_slice(f)?;
-        add_variable(alloc, &mut text, k)?;
-        if twice {
-            add_variable(alloc, &mut text, k)?;
-        }
-        text.extend_from_slice(b"))) ")?;
+        open_let(alloc, &mut text, k, f, twice)?;
     }
     text.extend_from_slice(body)?;
     for _ in 0..count {

@@ -4,6 +4,7 @@ use bumpalo::Bump;
 use nq_bank::Bank;
 use nq_event::{Event, EventFault, Outline, Refusal, outline_of, parse_event};
 use nq_history::History;
+use nq_sexp::Sexp;
 use std::alloc::{AllocError, Global};
 use std::test::Fail;
 
@@ -139,18 +140,23 @@ fn long_names_are_told(rt: HostRuntime) -> Result<(), Fail> {
     Ok(())
 }
 
-/// The event of the one form of a text in the ground history, or what its refusal tells.
-fn told_in_ground(alloc: Global, text: &[u8]) -> Result<Vec<u8>, Fail> {
-    let arena = Bump::new(alloc);
+/// The event of a form in the ground history, or what its refusal tells.
+fn told_of_form(alloc: Global, form: &Sexp<'_>) -> Result<Vec<u8>, Fail> {
     let mut bank = Bank::new(alloc)?;
     let history = History::ground(&mut bank)?;
+    match parse_event(&mut bank, &history, form) {
+        Ok(_) => Ok(b"read".to_vec(alloc)?),
+        Err(EventFault::Refused(code, words)) => Ok(joined(alloc, code, words.as_slice())?),
+        Err(EventFault::Memory) => Ok(b"memory".to_vec(alloc)?),
+    }
+}
+
+/// The same of the one form of a text.
+fn told_in_ground(alloc: Global, text: &[u8]) -> Result<Vec<u8>, Fail> {
+    let arena = Bump::new(alloc);
     let forms = forms_of(alloc, &arena, text)?;
     match forms.as_slice() {
-        [form] => match parse_event(&mut bank, &history, form) {
-            Ok(_) => Ok(b"read".to_vec(alloc)?),
-            Err(EventFault::Refused(code, words)) => Ok(joined(alloc, code, words.as_slice())?),
-            Err(EventFault::Memory) => Ok(b"memory".to_vec(alloc)?),
-        },
+        [form] => told_of_form(alloc, form),
         _ => Ok(b"not one form".to_vec(alloc)?),
     }
 }
@@ -227,25 +233,24 @@ fn first_refusals_are_told(rt: HostRuntime) -> Result<(), Fail> {
     Ok(())
 }
 
-/// Is the event of the one form of a text, in the ground history, a toggle of these names?
-fn is_toggle(
-    alloc: Global,
-    text: &[u8],
-    name: &[u8],
-    old: &[u8],
-    disabled: bool,
-) -> Result<bool, Fail> {
-    let arena = Bump::new(alloc);
+/// Is the event of a form, in the ground history, a toggle of PLUS by this name?
+fn toggles_plus(alloc: Global, form: &Sexp<'_>, name: &[u8], disabled: bool) -> Result<bool, Fail> {
     let mut bank = Bank::new(alloc)?;
     let history = History::ground(&mut bank)?;
+    match parse_event(&mut bank, &history, form) {
+        Ok(Event::Toggle(made, toggled, off)) => Ok(
+            bank.find(name) == Some(made) && bank.find(b"PLUS") == Some(toggled) && off == disabled,
+        ),
+        _ => Ok(false),
+    }
+}
+
+/// Is the event of the one form of a text so?
+fn is_toggle(alloc: Global, text: &[u8], name: &[u8], disabled: bool) -> Result<bool, Fail> {
+    let arena = Bump::new(alloc);
     let forms = forms_of(alloc, &arena, text)?;
     match forms.as_slice() {
-        [form] => match parse_event(&mut bank, &history, form) {
-            Ok(Event::Toggle(made, toggled, off)) => Ok(
-                bank.find(name) == Some(made) && bank.find(old) == Some(toggled) && off == disabled,
-            ),
-            _ => Ok(false),
-        },
+        [form] => toggles_plus(alloc, form, name, disabled),
         _ => Ok(false),
     }
 }
@@ -258,7 +263,7 @@ fn names_are_made_up(rt: HostRuntime) -> Result<(), Fail> {
         (b"(TOGGLE OFF PLUS T)", b"OFF", true),
         (b"(TOGGLE OFF PLUS NIL)", b"OFF", false),
     ] {
-        assert!(rt; is_toggle(rt.alloc(), text, name, b"PLUS", disabled)?);
+        assert!(rt; is_toggle(rt.alloc(), text, name, disabled)?);
     }
     Ok(())
 }
