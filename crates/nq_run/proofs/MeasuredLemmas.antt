@@ -1,6 +1,6 @@
 -- A recursive definition, from the session before its form to the one after it.
 use Rattle.std.proofs.Common.{◌≡◌, inl, inr, Bool, true, List, [], ◌∷◌, ◌++◌, ℕ, length, map, refl, ap, sym, subst, ◌∙◌}
-use Rattle.std.specs.Prelude.{◌≤◌, All, IfNone, IfOk, MatchOption, Option, None, Some, Result, Ok, Err, slice_get}
+use Rattle.std.specs.Prelude.{◌≤◌, All, IfOk, MatchOption, Option, None, Some, Result, Ok, Err, slice_get}
 use Rattle.nq_logic.specs.Terms.{Each, IsAmong, Name, Term}
 use Rattle.nq_logic.specs.Ground.{symbols_of}
 use Rattle.nq_logic.specs.Sizes.{depth_of}
@@ -204,7 +204,3 @@ kept_some bank history name formals body tried o kept is of = subst (λ (k : Opt
 pub kept_none : (bank : Content) (history : List Entry) (name : Sym) (formals : List Sym) (body : TermId) (tried : List TermId) (o : Option Kept) → o ≡ None
     → MatchOption o (NoneIsStructural history bank name formals body tried) (IsKept bank history name formals body tried) → NoneIsStructural history bank name formals body tried
 kept_none bank history name formals body tried o is of = subst (λ (k : Option Kept). MatchOption k (NoneIsStructural history bank name formals body tried) (IsKept bank history name formals body tried)) is of
-
-pub none_told : {X : Type 0} (o : Option X) (A : Type 0) → o ≡ None → IfNone o A → A
-none_told None A e w = w
-none_told (Some x) A e w = absurd cc

@@ -1,6 +1,6 @@
 -- What is told of the measures that were tried.
 use Rattle.std.proofs.Common.{◌≡◌, inl, inr, ℕ, zero, suc, List, [], ◌∷◌, length, refl, ap, arith}
-use Rattle.std.specs.Prelude.{All}
+use Rattle.std.specs.Prelude.{All, IfNone, Option, None, Some}
 use Rattle.nq_logic.specs.Terms.{Each, Term}
 use Rattle.nq_logic.specs.Ground.{symbols_of}
 use Rattle.nq_logic.specs.Histories.{Definition, History}
@@ -57,3 +57,17 @@ left_stand work f xs calls [] [] w = λ i d below. absurd (omega (arith, below))
 left_stand work f xs calls [] (l ∷ ls) w = absurd w
 left_stand work f xs calls (m ∷ ms) [] w = absurd w
 left_stand work f xs calls (m ∷ ms) (l ∷ ls) w = all_cons (LeftStands work.bank) l ls (first_stands work f xs m calls l w.0) (left_stand work f xs calls ms ls w.1)
+
+-- ---- options
+
+pub none_told : {X : Type 0} (o : Option X) (A : Type 0) → o ≡ None → IfNone o A → A
+none_told None A e w = w
+none_told (Some x) A e w = absurd cc
+
+pub none_so : {X : Type 0} (o : Option X) (A : Type 0) → A → IfNone o A
+none_so None A w = w
+none_so (Some x) A w = tt
+
+pub some_none : {X : Type 0} (o : Option X) (A : Type 0) (x : X) → o ≡ Some x → IfNone o A
+some_none None A x e = absurd cc
+some_none (Some y) A x e = tt

@@ -107,7 +107,7 @@ fn told_trial(alloc: Global, bank: &Bank, left: &Left) -> Result<Trial, AllocErr
 
 /// What is told of measures of which none is proved.
 fn told_trials(alloc: Global, bank: &Bank, left: &[Left]) -> Result<Vec<Trial>, AllocError>
-    requires { All (LeftStands bank.now) left.now }
+    requires left { All (LeftStands bank.now) left.now }
     ensures { IfOk result (λ v. trials_of v.items ≡ trials_at bank.now left.now) }
 {
     let mut trials = Vec::new(alloc);

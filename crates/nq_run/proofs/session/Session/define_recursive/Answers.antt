@@ -13,8 +13,9 @@ use Rattle.nq_run.specs.declared.recursions.Kept.{Kept}
 use Rattle.nq_run.specs.HistoryView.{history_of}
 use Rattle.nq_run.specs.Outcome.{AreBlocks}
 use Rattle.nq_run.specs.Recursions.{IsSought, IsTriable, kept_claims}
-use Rattle.nq_run.proofs.MeasuredLemmas.{free_kept, hints_shallow, kept_none, kept_some, left, none_told, mark_kept, measure_kept, names_kept, ready_kept, session_stands, taken_on, triable}
+use Rattle.nq_run.proofs.MeasuredLemmas.{free_kept, hints_shallow, kept_none, kept_some, left, mark_kept, measure_kept, names_kept, ready_kept, session_stands, taken_on, triable}
 use Rattle.nq_run.proofs.SessionLemmas.{stands_grown}
+use Rattle.nq_run.proofs.TrialLemmas.{none_told}
 use Rattle.nq_run.proofs.session.Session.define_recursive.Goals as goal
 
 pub tried_measures-requires-clause-shallow : goal.tried_measures-requires-clause-shallow
