@@ -42,6 +42,10 @@ pub part_stands : (work : Work) (P : Type 0) (tests : List Term) (x t : Term) (f
 part_stands work P tests x t None h = tt
 part_stands work P tests x t (Some n) h = only_stands work n _ h.line
 
+pub found_stands : (work : Work) (these : List Term) (found : Option ℕ) → IfSome found (λ n. LineHasOnly work n these) → IfSome found (LineStands work)
+found_stands work these None h = tt
+found_stands work these (Some n) h = only_stands work n these h
+
 pub leads_stands : (work : Work) (n : ℕ) (t : Term) (these : Clause) → LineLeads work n t these → LineStands work n
 leads_stands work n t these h = only_stands work n _ (leads_only work n t these h)
 
