@@ -1,8 +1,8 @@
 use Rattle.std.proofs.Common.{rules, [], ◌∷◌}
 use Rattle.nq_bank.specs.Content.{term_at}
 use Rattle.nq_lines.specs.Lines.{LineHasOnly}
-use Rattle.nq_prover.proofs.ProverLemmas.{told_only}
-use Rattle.nq_prover.proofs.prover.searched.Goals as goal
+use Rattle.nq_tactic.proofs.ProverLemmas.{told_only}
+use Rattle.nq_tactic.proofs.prover.searched.Goals as goal
 
 pub returns-in-Ok-Some-clause-told : goal.returns-in-Ok-Some-clause-told
 returns-in-Ok-Some-clause-told c =

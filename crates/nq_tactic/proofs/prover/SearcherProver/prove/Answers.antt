@@ -7,8 +7,8 @@ use Rattle.nq_lines.proofs.TermLemmas.{term_grown}
 use Rattle.nq_quick.specs.Answers.{IsQuickProof}
 use Rattle.nq_quick.proofs.FirstPassLemmas.{only_told}
 use Rattle.nq_search.proofs.SearchingLemmas.{ready_grown}
-use Rattle.nq_prover.proofs.ProverLemmas.{none_grown, first_before}
-use Rattle.nq_prover.proofs.prover.SearcherProver.prove.Goals as goal
+use Rattle.nq_tactic.proofs.ProverLemmas.{none_grown, first_before}
+use Rattle.nq_tactic.proofs.prover.SearcherProver.prove.Goals as goal
 
 pub searched-requires-clause-can : goal.searched-requires-clause-can
 searched-requires-clause-can c =

@@ -1,4 +1,5 @@
-//! The prover that searches.
+//! The prover: the first pass, and then the search. A lemma that is in a fragment is proved there, without counting a step; another is
+//! searched for, and where the search finds a line with only the lemma, it is proved by that.
 ghost use Rattle.std.specs.Prelude.{IfOk};
 ghost use Rattle.nq_bank.specs.Content.{term_at};
 ghost use Rattle.nq_history.specs.Events.{events_at};
@@ -8,11 +9,11 @@ ghost use Rattle.nq_kernel.specs.Proving.{HasGround, IsFirstPass, IsTold};
 ghost use Rattle.nq_lines.specs.Lines.{IsTermIn};
 ghost use Rattle.nq_search.specs.Goals.{CanSearch};
 
+use crate::lemmas::seek_lemma;
 use nq_bank::{Bank, TermId};
 use nq_history::{Hints, History};
 use nq_kernel::{Proof, Prover, Stop, Verdict, Work, ready_histories};
 use nq_quick::quick;
-use nq_tactic::seek_lemma;
 use std::alloc::AllocError;
 
 /// Proves lemmas by the first pass, and where that doesn't prove them by a search. It keeps nothing of a history.
