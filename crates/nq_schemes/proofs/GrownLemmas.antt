@@ -5,7 +5,6 @@ use Rattle.nq_logic.specs.Terms.{Term, Variable}
 use Rattle.nq_logic.specs.Words.{call1}
 use Rattle.nq_bank.specs.declared.node.Sym.{Sym}
 use Rattle.nq_bank.specs.declared.node.TermId.{TermId}
-use Rattle.nq_bank.specs.Content.{term_at}
 use Rattle.nq_bank.proofs.Growth.{IsNamed-grown, text_at-grown}
 use Rattle.nq_bank.proofs.Standing.{All-push}
 use Rattle.nq_rule.specs.declared.induction.InductionStep.{InductionStep}

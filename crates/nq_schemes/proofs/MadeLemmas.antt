@@ -1,6 +1,6 @@
 -- Terms that are made, over the history.
-use Rattle.std.proofs.Common.{◌≡◌, ◌∙◌, ℕ, true, List, [], ◌∷◌, Some, None, sym, ap, subst, inl, inr}
-use Rattle.std.specs.Prelude.{All, Option, IfSome, MatchOption}
+use Rattle.std.proofs.Common.{◌≡◌, ℕ, true, List, [], ◌∷◌, Some, None, sym, ap, subst, inl, inr}
+use Rattle.std.specs.Prelude.{Option, IfSome, MatchOption}
 use Rattle.std.specs.Option.{option_map}
 use Rattle.nq_logic.specs.Terms.{Term, Variable, Each, IsAmong}
 use Rattle.nq_logic.specs.Words.{call1, call2}
