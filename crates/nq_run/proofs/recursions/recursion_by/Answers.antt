@@ -9,7 +9,7 @@ use Rattle.nq_block.specs.Closings.{CanRecur}
 use Rattle.nq_measures.specs.declared.finding.Admitting.{Admitting}
 use Rattle.nq_measures.specs.declared.left.Left.{Left}
 use Rattle.nq_run.specs.Recursions.{LeftStands, trials_at}
-use Rattle.nq_run.proofs.TrialLemmas.{none_so, none_told, some_none}
+use Rattle.nq_run.proofs.TrialLemmas.{none_so, none_told}
 use Rattle.nq_run.proofs.recursions.recursion_by.Goals as goal
 
 pub block_of-requires-clause-closing : goal.block_of-requires-clause-closing
@@ -21,12 +21,9 @@ block_of-requires-clause-closing c =
     subst (λ (xs : List Sym). CanRecur (events_at work.bank c.args.history.now) (clause_at work.bank work.log) (text_at work.bank r.name) (texts_at work.bank xs) (term_at work.bank r.body) (term_at work.bank a.measure) a.ordinal a.falls.items)
     (sym c.in_ok-formals-in-Some.ensures.items) closes
 
-pub told_trials-requires-clause-left : goal.told_trials-requires-clause-left
-told_trials-requires-clause-left c =
+pub told_trials-requires : goal.told_trials-requires
+told_trials-requires c =
     subst (λ (ls : List Left). All (LeftStands c.args.work.bank) ls) (sym c.as_slice.ensures.value) (none_told c.args.measured.found _ c.in-None.is c.requires.left)
 
 pub returns-in-None-clause-trials : goal.returns-in-None-clause-trials
 returns-in-None-clause-trials c = none_so c.args.measured.found _ (c.in_ok-trials-in-None.ensures ∙ ap (trials_at c.args.work.bank) c.as_slice.ensures.value)
-
-pub returns-in-Some-clause-trials : goal.returns-in-Some-clause-trials
-returns-in-Some-clause-trials c = some_none c.args.measured.found _ c.in-Some.admitting c.in-Some.is
