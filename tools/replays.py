@@ -12,12 +12,26 @@ from printing import cone, term
 
 LETTERS = "ABCDEPQSXYZ"
 
+# The words of nq_replay::words are short, so that the layout puts many of them in a line; one of more than ten letters would
+# spoil that. A constant has a most number of expressions, which a word in the place of a call raises: the largest table has calls.
+SHORTER = {"NEGATIVE_GUTS": "GUTS"}
+SPELLED = ["less_is_transitive"]
+
 def steps(t):
-    """the steps that make the term"""
+    """the steps that make the term, in words"""
     if isinstance(t, str):
         part = re.fullmatch(r"X(\d+)", t)
-        return ["Step::Leaf(Leaf::Part(%d))" % (int(part.group(1)) - 1)] if part else [t]
-    return [s for a in t[1:] for s in steps(a)] + ["Step::Call(ground::%s, %d)" % (t[0].replace("-", "_"), len(t) - 1)]
+        assert not part or part.group(1) == "1", t
+        return ["PART"] if part else [t]
+    name = t[0].replace("-", "_")
+    return [s for a in t[1:] for s in steps(a)] + [(SHORTER.get(name, name), "Step::Call(ground::%s, %d)" % (name, len(t) - 1))]
+
+def worded(made, spelled):
+    """the steps as they stand in the table, and the words of which they are"""
+    if spelled:
+        return [s if isinstance(s, str) else s[1] for s in made], []
+    texts = [s if isinstance(s, str) else s[0] for s in made]
+    return texts, sorted(set(texts))
 
 def listed(texts):
     return "&[%s]" % ", ".join(texts)
@@ -55,13 +69,19 @@ def table(name, line, known, types="crate::table"):
         assert k == "INDUCT", k
         return "Induct(%d, %d, %d, %d, %s)" % (place(terms, r[1]), place(terms, r[2]), new[r[3]], new[r[4]], listed(case(*c) for c in r[5]))
     rules = ["LawRule::" + rule(L.lines[l - 1][0]) for l in order[len(known):]]
-    made = [s for t in terms for s in steps(t)]
-    letters = [v for v in LETTERS if v in made]
+    made, words = worded([s for t in terms for s in steps(t)], name in SPELLED)
+    letters = [v for v in LETTERS if v in made and v not in words]
     out = "\n/// The law `%s`.\npub const %s: Law = Law {\n    names: %s,\n    terms: &[\n" % (name, name.upper(), listed('b"%s"' % n for n in names))
     out += "".join("        %s,\n" % s for s in made) + "    ],\n    rules: &[\n" + "".join("        %s,\n" % r for r in rules) + "    ],\n};\n"
     head = "//! The table of the law `%s`. It is printed.\n\n" % name
     used = [w for w in ("Law", "LawCase", "LawHypothesis", "LawPair", "LawRule") if re.search(r"\b%s\b" % w, out)]
-    uses = ["use %s::{%s};\n" % (types, ", ".join(used)), "use nq_bank::ground;\n", "use nq_steps::{Leaf, Step};\n"]
+    uses = ["use %s::{%s};\n" % (types, ", ".join(used))]
+    if words:
+        uses.append("use %s::words::{%s};\n" % (types.split("::")[0], ", ".join(words)))
+    else:
+        uses.append("use nq_steps::{Leaf, Step};\n")
+    if "ground::" in out:
+        uses.append("use nq_bank::ground;\n")
     if "Side::" in out:
         uses.append("use nq_rule::Side;\n")
     head += "".join(sorted(uses))

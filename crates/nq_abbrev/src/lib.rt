@@ -47,6 +47,3 @@ pub use arities::Arities;
 pub use laws::{names_are_calls, printed_is_translated};
 pub use refusal::Refusal;
 pub use translation::{TranslateFault, translate};
-
-#[cfg(test)]
-mod tests;

@@ -1,4 +1,3 @@
 mod TermLemmas
 mod FormalLemmas
 mod AdmissionLemmas
-mod TestLemmas

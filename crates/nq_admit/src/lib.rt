@@ -14,6 +14,3 @@ mod admission;
 
 pub use admission::{AdmitFault, admit};
 pub use formals::{first_constant, first_repeated};
-
-#[cfg(test)]
-mod tests;

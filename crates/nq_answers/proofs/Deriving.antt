@@ -13,7 +13,7 @@ use Rattle.nq_form.specs.Form.{Form, Forms, end, dotted, next}
 use Rattle.nq_log.specs.States.{Adds, Undoes}
 use Rattle.nq_log.specs.Laws.{ClaimsHold, EventHolds, IsSound}
 use Rattle.nq_log.proofs.Events.{sound_after}
-use Rattle.nq_comment.specs.Reports.{Answer, Accepted, AcceptedBy, Undone, Skipped, Proved, ProvedFrom, Failed, OutOfSteps, Quick, Taut, Eval, Inst, Report}
+use Rattle.nq_comment.specs.Reports.{Answer, Accepted, AcceptedBy, Unmeasured, Undone, Skipped, Proved, ProvedFrom, Failed, OutOfSteps, Quick, Taut, Eval, Inst, Report}
 use Rattle.nq_comment.specs.declared.step.Cause.TheVariants.{False, NoInduction}
 use Rattle.nq_goals.specs.Hints.{first_goal}
 use Rattle.nq_language.specs.Printing.{printed}
@@ -126,7 +126,7 @@ module _ (h : History) (sound : IsSound h) (form : Form) where
 
   -- a definition that is tried
   definition_holds : (name : Name) (formals : List Name) (body : Term) (measures : List Measure) (answer : Answer) → event_refusal h form ≡ None → event_of h form ≡ Defn name formals body measures
-      → own_refusal h (Defn name formals body measures) ≡ None → (b : Bool) → mentions name body ≡ b → IsDefined b h form name formals body measures answer
+      → own_refusal h (Defn name formals body measures) ≡ None → (b : Bool) → mentions name body ≡ b → IsDefined b h name formals body measures answer
       → HoldsAfter h (Defn name formals body measures) answer
   definition_holds name formals body measures answer none is own b recursive so = by_test b recursive so
     where
@@ -140,13 +140,13 @@ module _ (h : History) (sound : IsSound h) (form : Form) where
       defines : (m : Option Term) → IsAdmissible h (record { function = name; formals = formals; body = body; measure = m }) → Defines m
       defines m admissible = taken_holds (defined name formals body m) (defined name formals body m) refl admissible.unused admissible admissible
 
-      recursion : IsRecursionTried h form name formals body measures answer → HoldsAfter h e answer
+      recursion : IsRecursionTried h name formals body measures answer → HoldsAfter h e answer
       recursion (inl accepted) =
           answered e answer (AcceptedBy accepted.place (printed accepted.measure)) accepted.answer_is
           (subst Defines (sym accepted.tried) (defines (Some accepted.measure) accepted.admissible))
-      recursion (inr unmeasured) = answered e answer (not_yet form) unmeasured.answer_is (tt, sound)
+      recursion (inr unmeasured) = answered e answer (Unmeasured unmeasured.trials) unmeasured.answer_is (tt, sound)
 
-      by_test : (b : Bool) → mentions name body ≡ b → IsDefined b h form name formals body measures answer → HoldsAfter h e answer
+      by_test : (b : Bool) → mentions name body ≡ b → IsDefined b h name formals body measures answer → HoldsAfter h e answer
       by_test false plain so = answered e answer Accepted so (defines None (plain_definitions h form name formals body measures none is own plain))
       by_test true recursive so = recursion so
 

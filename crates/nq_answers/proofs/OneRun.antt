@@ -39,16 +39,16 @@ tried_once h form hints t answer other (by_instance a x) (by_tautology b y) = ab
 tried_once h form hints t answer other (by_instance a x) (by_evaluation b) = absurd (a.no_value b.first.value)
 tried_once h form hints t answer other (by_instance a x) (by_instance b y) = inl (x ∙ sym y)
 
-defined_once : (h : History) (form : Form) (name : Name) (formals : List Name) (body : Term) (measures : List Measure) (answer other : Answer) (b : Bool) → mentions name body ≡ b
-    → IsDefined b h form name formals body measures answer → IsDefined b h form name formals body measures other → (answer ≡ other) ⊎ (mentions name body ≡ true)
-defined_once h form name formals body measures answer other false plain x y = inl (x ∙ sym y)
-defined_once h form name formals body measures answer other true recursive x y = inr recursive
+defined_once : (h : History) (name : Name) (formals : List Name) (body : Term) (measures : List Measure) (answer other : Answer) (b : Bool) → mentions name body ≡ b
+    → IsDefined b h name formals body measures answer → IsDefined b h name formals body measures other → (answer ≡ other) ⊎ (mentions name body ≡ true)
+defined_once h name formals body measures answer other false plain x y = inl (x ∙ sym y)
+defined_once h name formals body measures answer other true recursive x y = inr recursive
 
 outcome_once : (h : History) (form : Form) (e : Event) (answer other : Answer) → IsOutcome h form e answer → IsOutcome h form e other → (answer ≡ other) ⊎ IsLeftToProver h e
 outcome_once h form BootStrap answer other a b = inl (a ∙ sym b)
 outcome_once h form (AddShell shell) answer other a b = inl (a ∙ sym b)
 outcome_once h form (Dcl name formals) answer other a b = inl (a ∙ sym b)
-outcome_once h form (Defn name formals body measures) answer other a b = defined_once h form name formals body measures answer other (mentions name body) refl a b
+outcome_once h form (Defn name formals body measures) answer other a b = defined_once h name formals body measures answer other (mentions name body) refl a b
 outcome_once h form (AddAxiom name classes t) answer other a b = inl (a ∙ sym b)
 outcome_once h form (ProveLemma name classes t hints) answer other a b = tried_once h form hints t answer other a b
 outcome_once h form (Toggle name old disabled) answer other a b = inl (a ∙ sym b)

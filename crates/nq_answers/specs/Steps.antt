@@ -21,11 +21,12 @@ use Rattle.nq_fragments.specs.Fragments.{IsFirstByEvaluation, IsFirstByInstance,
 use Rattle.nq_goals.specs.Hints.{first_goal}
 use Rattle.nq_goals.specs.Spent.{IsFalse, IsSpent}
 use Rattle.nq_goals.specs.declared.kinds.Cause.TheVariants as cause
-use Rattle.nq_comment.specs.Reports.{Answer, Accepted, AcceptedBy, Undone, Skipped, Proved, ProvedFrom, Failed, OutOfSteps, Refused, Taut, Eval, Inst, Report}
+use Rattle.nq_comment.specs.Reports.{Answer, Accepted, AcceptedBy, Unmeasured, Undone, Skipped, Proved, ProvedFrom, Failed, OutOfSteps, Refused, Taut, Eval, Inst, Report, Trial}
 use Rattle.nq_comment.specs.declared.step.Cause.TheVariants.{False, NoInduction}
 use Rattle.nq_comment.specs.Text.{shown_word}
 use Rattle.nq_answers.specs.Headers.{name_of, word_of}
 use Rattle.nq_answers.specs.Goals.{goal_text}
+use Rattle.nq_answers.specs.Measuring.{AreTrials}
 
 -- the first of two answers that there is
 abbrev pub first_answer : Option Answer → Option Answer → Option Answer
@@ -64,20 +65,22 @@ pub record IsAcceptedBy (h : History) (name : Name) (formals : List Name) (body 
   pub admissible : IsAdmissible h (measured_definition name formals body measure)
   pub answer_is : answer ≡ AcceptedBy place (printed measure)
 
--- For now, a definition that is not structural by the ground shells may be answered so, whatever its measures.
-pub record IsUnmeasured (h : History) (form : Form) (name : Name) (formals : List Name) (body : Term) (answer : Answer) : Type 0 where
+-- The definition is not structural by the ground shells, and of each measure that is tried an obligation is told that is left.
+pub record IsUnmeasured (h : History) (name : Name) (formals : List Name) (body : Term) (measures : List Measure) (answer : Answer) : Type 0 where
   pub plain : IsStructural [] (plain_definition name formals body) → ⊥
-  pub answer_is : answer ≡ not_yet form
+  pub trials : List Trial
+  pub told : AreTrials h (plain_definition name formals body) (tried_measures formals measures) trials
+  pub answer_is : answer ≡ Unmeasured trials
 
 -- a definition that calls its own function
-abbrev pub IsRecursionTried : History → Form → Name → List Name → Term → List Measure → Answer → Type 0
-IsRecursionTried h form name formals body measures answer =
-    IsAcceptedBy h name formals body measures answer ⊎ IsUnmeasured h form name formals body answer
+abbrev pub IsRecursionTried : History → Name → List Name → Term → List Measure → Answer → Type 0
+IsRecursionTried h name formals body measures answer =
+    IsAcceptedBy h name formals body measures answer ⊎ IsUnmeasured h name formals body measures answer
 
 -- a definition, and whether it calls its own function
-abbrev pub IsDefined : Bool → History → Form → Name → List Name → Term → List Measure → Answer → Type 0
-IsDefined false h form name formals body measures answer = answer ≡ Accepted
-IsDefined true h form name formals body measures answer = IsRecursionTried h form name formals body measures answer
+abbrev pub IsDefined : Bool → History → Name → List Name → Term → List Measure → Answer → Type 0
+IsDefined false h name formals body measures answer = answer ≡ Accepted
+IsDefined true h name formals body measures answer = IsRecursionTried h name formals body measures answer
 
 -- The lemma is in no fragment and its first goal is not false. It is derivable, and proved from the first goal. Or it is not proved within the steps;
 -- or, for now, not at all.
@@ -123,7 +126,7 @@ abbrev pub IsOutcome : History → Form → Event → Answer → Type 0
 IsOutcome h form BootStrap answer = answer ≡ Accepted
 IsOutcome h form (AddShell shell) answer = answer ≡ Accepted
 IsOutcome h form (Dcl name formals) answer = answer ≡ Accepted
-IsOutcome h form (Defn name formals body measures) answer = IsDefined (mentions name body) h form name formals body measures answer
+IsOutcome h form (Defn name formals body measures) answer = IsDefined (mentions name body) h name formals body measures answer
 IsOutcome h form (AddAxiom name classes t) answer = answer ≡ Accepted
 IsOutcome h form (ProveLemma name classes t hints) answer = IsTried h form hints t answer
 IsOutcome h form (Toggle name old disabled) answer = answer ≡ Accepted
@@ -142,6 +145,7 @@ Answers h form answer = AnswersUnless (refusal_of h form) h form (event_of h for
 abbrev pub is_taken : Answer → Bool
 is_taken Accepted = true
 is_taken (AcceptedBy place measure) = true
+is_taken (Unmeasured trials) = false
 is_taken (Undone count) = true
 is_taken (Proved quick) = true
 is_taken (ProvedFrom goal steps) = true
@@ -166,6 +170,7 @@ measures_of PassedOver = []
 abbrev pub measure_by : Event → Answer → Option Term
 measure_by event Accepted = None
 measure_by event (AcceptedBy place measure) = slice_get (measures_of event) place
+measure_by event (Unmeasured trials) = None
 measure_by event (Undone count) = None
 measure_by event (Proved quick) = None
 measure_by event (ProvedFrom goal steps) = None

@@ -34,6 +34,3 @@ pub use calls::SIZE_LIMIT;
 pub use node::{BankFault, Mark, Node, Sym, TermId};
 pub use shell::{Part, Shell};
 pub use symbols::{ground_name, is_same_name};
-
-#[cfg(test)]
-mod tests;

@@ -48,6 +48,3 @@ pub fn spelled_names()
     ensures grows { SymbolsGrow }
     ensures stays { SymbolsStay }
 {}
-
-#[cfg(test)]
-mod tests;

@@ -40,6 +40,3 @@ mod verdict;
 
 pub use checking::check;
 pub use verdict::{CheckFault, Checked, Refusal, verdict_line};
-
-#[cfg(test)]
-mod tests;

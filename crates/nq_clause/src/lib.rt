@@ -37,6 +37,3 @@ pub use matching::match_term;
 pub use occurrence::occurs_in;
 pub use substitution::{Pair, substitute};
 pub use subsumption::subsumes;
-
-#[cfg(test)]
-mod tests;

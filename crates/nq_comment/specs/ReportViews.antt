@@ -6,6 +6,7 @@ use Rattle.std.specs.declared.alloc.Global.{Global}
 use Rattle.nq_comment.specs.Reports as model
 use Rattle.nq_comment.specs.declared.answer.Quick.{Quick}
 use Rattle.nq_comment.specs.declared.answer.Quick.TheVariants as quick
+use Rattle.nq_comment.specs.declared.answer.Trial.{Trial}
 use Rattle.nq_comment.specs.declared.answer.FormAnswer.{FormAnswer}
 use Rattle.nq_comment.specs.declared.answer.FormAnswer.TheVariants as form
 use Rattle.nq_comment.specs.declared.step.ShownStep.{ShownStep}
@@ -28,9 +29,16 @@ step_of s = record { parent = s.parent; led_by = s.led_by; goal = s.goal.items }
 abbrev pub steps_of : List ShownStep → List model.ShownStep
 steps_of = map step_of
 
+abbrev pub trial_of : Trial → model.Trial
+trial_of t = record { measure = t.measure.items; goal = t.goal.items; out_of_steps = t.out_of_steps }
+
+abbrev pub trials_of : List Trial → List model.Trial
+trials_of = map trial_of
+
 abbrev pub answer_of : FormAnswer → model.Answer
 answer_of form.Accepted = model.Accepted
 answer_of (form.AcceptedBy place measure) = model.AcceptedBy place measure.items
+answer_of (form.Unmeasured trials) = model.Unmeasured (trials_of trials.items)
 answer_of (form.Undone count) = model.Undone count
 answer_of form.Skipped = model.Skipped
 answer_of (form.Proved quick) = model.Proved (quick_of quick)

@@ -1,5 +1,5 @@
 -- What a report says of a form.
-use Rattle.std.specs.Prelude.{ℕ, List, Option}
+use Rattle.std.specs.Prelude.{ℕ, Bool, List, Option}
 use Rattle.nq_comment.specs.declared.step.Move.{Move}
 use Rattle.nq_comment.specs.declared.step.Cause.{Cause}
 use Rattle.nq_comment.specs.declared.kind.Kind.{Kind}
@@ -18,11 +18,20 @@ pub record ShownStep : Type 0 where
   pub led_by : Move
   pub goal : List ℕ
 
+-- a measure that was tried of a recursive definition and is not proved: its text, the text of its first obligation that is not
+-- proved, and whether the steps ran out at that
+pub record Trial : Type 0 where
+  pub measure : List ℕ
+  pub goal : List ℕ
+  pub out_of_steps : Bool
+
 -- What a form is answered. The words of a refusal begin with its name; measures and goals are told by their texts.
 pub data Answer : Type 0 where
   Accepted : Answer
   -- the recursive definition has the measure of this place among those that are tried, counted from 0
   AcceptedBy : (place : ℕ) (measure : List ℕ) → Answer
+  -- no measure of the recursive definition is proved; each that was tried is told
+  Unmeasured : (trials : List Trial) → Answer
   -- so many events are gone
   Undone : (count : ℕ) → Answer
   Skipped : Answer
@@ -38,6 +47,7 @@ pub data Answer : Type 0 where
 abbrev pub kind_of : Answer → Kind
 kind_of Accepted = kind.Accepted
 kind_of (AcceptedBy place measure) = kind.Accepted
+kind_of (Unmeasured trials) = kind.Refused
 kind_of (Undone count) = kind.Accepted
 kind_of Skipped = kind.Skipped
 kind_of (Proved quick) = kind.Accepted

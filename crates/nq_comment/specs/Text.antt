@@ -1,12 +1,12 @@
 -- The commentary: the lines of reports, and the closing lines.
-use Rattle.std.specs.Prelude.{◌+◌, ◌==◌, if◌then◌else◌, ℕ, List, [], ◌∷◌, ◌++◌, Option, Some, None, codes}
+use Rattle.std.specs.Prelude.{◌+◌, ◌==◌, if◌then◌else◌, ℕ, Bool, true, false, List, [], ◌∷◌, ◌++◌, Option, Some, None, codes}
 use Rattle.std.specs.List.{flat_map}
 use Rattle.std.specs.Fmt.{decimal}
 use Rattle.nq_comment.specs.declared.step.Move.{Move}
 use Rattle.nq_comment.specs.declared.step.Move.TheVariants.{Simp, Subst, Elim, Fert, Gen, Irr, Ind}
 use Rattle.nq_comment.specs.declared.step.Cause.{Cause}
 use Rattle.nq_comment.specs.declared.step.Cause.TheVariants.{False, NoInduction, Loop, Forbidden, Depth}
-use Rattle.nq_comment.specs.Reports.{Answer, Accepted, AcceptedBy, Undone, Skipped, Proved, ProvedFrom, Failed, OutOfSteps, Refused, Quick, Taut, Eval, Inst, ShownStep, Report}
+use Rattle.nq_comment.specs.Reports.{Answer, Accepted, AcceptedBy, Unmeasured, Undone, Skipped, Proved, ProvedFrom, Failed, OutOfSteps, Refused, Quick, Taut, Eval, Inst, ShownStep, Trial, Report}
 use Rattle.nq_comment.specs.Totals.{Totals, totals_of}
 use Rattle.nq_form.specs.Grammar.{Ending, done, fault, too_long}
 
@@ -77,9 +77,27 @@ measured_line measure = joined (codes "   Accepted by " ∷ measure ∷ codes ".
 abbrev pub failed_line : Cause → List ℕ
 failed_line cause = joined (codes "   Failed, " ∷ cause_words cause ∷ codes ".\n" ∷ [])
 
+-- how a trial ended: its steps ran out, or not
+abbrev pub trial_end : Bool → List ℕ
+trial_end true = codes " out of steps.\n"
+trial_end false = codes " failed.\n"
+
+-- the line of a trial, by the texts of its measure, its goal and its end
+abbrev pub trial_line_by : List ℕ → List ℕ → List ℕ → List ℕ
+trial_line_by measure goal end = joined (codes "   Tried " ∷ measure ∷ codes ": " ∷ goal ∷ end ∷ [])
+
+-- the line of a measure that was tried
+abbrev pub trial_line : Trial → List ℕ
+trial_line t = trial_line_by t.measure t.goal (trial_end t.out_of_steps)
+
+-- the lines of a definition of which no measure is proved
+abbrev pub unmeasured_lines : List Trial → List ℕ
+unmeasured_lines trials = flat_map trial_line trials ++ codes "   Refused 64 NoMeasure.\n"
+
 abbrev pub answer_lines : Answer → List ℕ
 answer_lines Accepted = codes "   Accepted.\n"
 answer_lines (AcceptedBy place measure) = measured_line measure
+answer_lines (Unmeasured trials) = unmeasured_lines trials
 answer_lines (Undone count) = joined (codes "   Undone " ∷ decimal count ∷ codes ".\n" ∷ [])
 answer_lines Skipped = codes "   Skipped.\n"
 answer_lines (Proved quick) = joined (codes "   By " ∷ quick_word quick ∷ codes ".\n   Proved.\n" ∷ [])

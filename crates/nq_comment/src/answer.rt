@@ -25,6 +25,17 @@ pub struct Refusal {
     pub words: Vec<Vec<u8>>,
 }
 
+/// A measure that was tried of a recursive definition and is not proved, as its line tells it.
+#[derive(Drop)]
+pub struct Trial {
+    /// The text of the measure.
+    pub measure: Vec<u8>,
+    /// The text of its first obligation that is not proved.
+    pub goal: Vec<u8>,
+    /// Whether the steps ran out at it.
+    pub out_of_steps: bool,
+}
+
 /// What a form is answered.
 #[derive(Drop)]
 pub enum FormAnswer {
@@ -32,6 +43,8 @@ pub enum FormAnswer {
     Accepted,
     /// The recursive definition has the measure of this place among those that are tried, counted from 0, with this text.
     AcceptedBy(u64, Vec<u8>),
+    /// No measure of the recursive definition is proved; each that was tried is told.
+    Unmeasured(Vec<Trial>),
     /// So many events are gone.
     Undone(u64),
     /// The form was passed over.
@@ -56,6 +69,7 @@ impl FormAnswer {
         match self {
             FormAnswer::Accepted => Kind::Accepted,
             FormAnswer::AcceptedBy(_, _) => Kind::Accepted,
+            FormAnswer::Unmeasured(_) => Kind::Refused,
             FormAnswer::Undone(_) => Kind::Accepted,
             FormAnswer::Proved(_) => Kind::Accepted,
             FormAnswer::ProvedFrom(_, _) => Kind::Accepted,

@@ -12,8 +12,9 @@ mod kind;
 mod report;
 mod step;
 mod text;
+mod trial_lines;
 
-pub use answer::{FormAnswer, Quick, Refusal};
+pub use answer::{FormAnswer, Quick, Refusal, Trial};
 pub use counts::Counts;
 pub use kind::Kind;
 pub use report::{FormReport, SyntaxFault, render_closing, render_report, shown_word};

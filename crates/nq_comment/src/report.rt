@@ -7,6 +7,7 @@ ghost use Rattle.nq_comment.specs.Totals.{totals_in};
 
 use crate::goal_lines::{failed_lines, proved_lines};
 use crate::text::joined;
+use crate::trial_lines::unmeasured_lines;
 use crate::{Counts, FormAnswer, Quick, Refusal};
 use std::alloc::{AllocError, Global};
 
@@ -80,6 +81,7 @@ fn answer_lines(alloc: Global, answer: &FormAnswer) -> Result<Vec<u8>, AllocErro
     match answer {
         FormAnswer::Accepted => b"   Accepted.\n".as_slice().to_vec(alloc),
         FormAnswer::AcceptedBy(_, measure) => measured_line(alloc, measure.as_slice()),
+        FormAnswer::Unmeasured(trials) => unmeasured_lines(alloc, trials.as_slice()),
         FormAnswer::Undone(count) => undone_line(alloc, *count),
         FormAnswer::Skipped => b"   Skipped.\n".as_slice().to_vec(alloc),
         FormAnswer::Proved(quick) => quick_lines(alloc, *quick),

@@ -77,6 +77,3 @@ pub use shells::{PartOutline, RestrictionOutline, ShellOutline};
 pub fn made_names_are_unused()
     ensures { MadeNamesAreUnused }
 {}
-
-#[cfg(test)]
-mod tests;

@@ -33,6 +33,3 @@ pub use entry::{Class, Entry, EntryKind};
 pub use hints::{Hints, Instance};
 pub use history::{EVENT_LIMIT, GROUND_LENGTH, History, PushFault, UndoFault};
 pub use reserved::is_reserved;
-
-#[cfg(test)]
-mod tests;

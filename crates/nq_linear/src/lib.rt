@@ -29,6 +29,3 @@ mod refuting;
 
 pub use answer::{Found, find};
 pub use refuting::{LinearAnswer, refute};
-
-#[cfg(test)]
-mod tests;

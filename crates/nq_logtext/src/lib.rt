@@ -26,6 +26,3 @@ pub use reading::{one_spelling, parse_line};
 pub use text::Text;
 pub use word::Word;
 pub use writing::write_line;
-
-#[cfg(test)]
-mod tests;

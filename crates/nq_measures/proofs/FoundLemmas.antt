@@ -33,9 +33,10 @@ use Rattle.nq_replay.proofs.NameLemmas.{texts_grown}
 use Rattle.nq_calls.specs.declared.calls.Site.{Site}
 use Rattle.nq_calls.specs.Calls.{SiteStands, site_at, sites_at}
 use Rattle.nq_measures.specs.declared.finding.Admitting.{Admitting}
+use Rattle.nq_measures.specs.declared.left.Left.{Left}
 use Rattle.nq_measures.specs.Measures.{ordinal_clause}
 use Rattle.nq_measures.specs.Admitting.{AreFalls, IsAdmitting, IsFoundAmong, IsNewFunction, NoneIsStructural}
-use Rattle.nq_measures.specs.Trials.{AllFallBy, AllDescend, Descends, IsCounted, IsNotStructural, IsSiteOf, IsTrial, size_of_variable}
+use Rattle.nq_measures.specs.Trials.{AllFallBy, AllDescend, AreLeft, AreLeftAt, Descends, IsCounted, IsNotStructural, IsSiteOf, IsTrial, size_of_variable}
 use Rattle.nq_measures.proofs.CalledLemmas.{calls_counted}
 use Rattle.nq_measures.proofs.StructuralLemmas.{structural_descends}
 use Rattle.nq_measures.proofs.GrownLemmas.{all_descend_still, all_stand, sites_same, told_still}
@@ -174,3 +175,13 @@ module _ (history : List Entry) (old : Content) (mid new : Work) (f : Sym) (form
   pub option_found : IsReady (events_at old history) → (found : Option Admitting) → MatchOption found (All (λ m. IsNotStructural history mid.bank formals m sites) tried) (IsFoundAmong new f formals sites tried) → MatchOption found (NoneIsStructural history old f formals body tried) (IsAdmitting history old new f formals body tried)
   option_found ready None w = none_found ready w
   option_found ready (Some a) w = measure_found a w
+
+-- what is left of each measure, told of the calls within the body
+pub left_as_called : (history : List Entry) (old mid : Content) (new : Work) (f : Sym) (formals : List Sym) (body : TermId) (tried : List TermId) (sites : List Site) → Grows old mid → IsNewFunction history old f formals body → All (IsTrial history old f formals) tried → sites_at mid sites ≡ counted_calls (text_at mid f) (term_at mid body) →
+    (ls : List Left) → AreLeftAt mid new f formals sites tried ls → AreLeft new (text_at old f) (texts_at old formals) (counted_calls (text_at old f) (term_at old body)) (terms_at old tried) ls
+left_as_called history old mid new f formals body tried sites up function trials are ls w =
+    let calls : sites_at mid sites ≡ counted_calls (text_at old f) (term_at old body) = are ∙ ap₂ (λ (g : Name) (t : Term). counted_calls g t) (text_at-grown old mid f up function.function) (term_at-grown old mid body up function.body_stands) in
+    subst (λ (g : Name). AreLeft new g (texts_at old formals) (counted_calls (text_at old f) (term_at old body)) (terms_at old tried) ls) (text_at-grown old mid f up function.function)
+    (subst (λ (xs : List Name). AreLeft new (text_at mid f) xs (counted_calls (text_at old f) (term_at old body)) (terms_at old tried) ls) (texts_grown old mid formals up function.formals_named)
+    (subst (λ (cs : List Call). AreLeft new (text_at mid f) (texts_at mid formals) cs (terms_at old tried) ls) calls
+    (subst (λ (ts : List Term). AreLeft new (text_at mid f) (texts_at mid formals) (sites_at mid sites) ts ls) (terms_at-grown old mid tried up (λ i d below. (trials i d below).measure_stands)) w)))

@@ -105,7 +105,7 @@ size_grown old new m x h stand w =
     }
 
 -- lines stay
-falls_later : (history : List Entry) (old new : Work) (f : Name) (xs : List Name) (m : Term) (c : Call) (n : ℕ) → WorkStands history old → WorkGrows history old new → FallsBy old f xs m c n → FallsBy new f xs m c n
+pub falls_later : (history : List Entry) (old new : Work) (f : Name) (xs : List Name) (m : Term) (c : Call) (n : ℕ) → WorkStands history old → WorkGrows history old new → FallsBy old f xs m c n → FallsBy new f xs m c n
 falls_later history old new f xs m c n stands grows w = record { older = w.older; less = only_grown history old new n _ stands grows w.less }
 
 pub all_fall_later : (history : List Entry) (old new : Work) (f : Name) (xs : List Name) (m : Term) (calls : List Call) (ns : List ℕ) → WorkStands history old → WorkGrows history old new → AllFallBy old f xs m calls ns → AllFallBy new f xs m calls ns

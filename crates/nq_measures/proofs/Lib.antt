@@ -10,6 +10,7 @@ pub mod GrownLemmas
 pub mod OwedLemmas
 pub mod ReadyLemmas
 pub mod SearchLemmas
+pub mod LeftLemmas
 pub mod DescentLemmas
 pub mod FindingLemmas
 pub mod VariableLemmas

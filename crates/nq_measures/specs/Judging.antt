@@ -14,6 +14,14 @@ use Rattle.nq_measures.specs.declared.judging.Why.TheVariants.{Mentions, TooDeep
 use Rattle.nq_measures.specs.declared.judging.Judged.{Judged}
 use Rattle.nq_measures.specs.declared.judging.Judged.TheVariants.{Shown, Open}
 
+-- whether an obligation has no line for want of steps; a term that is too deep takes all that are left
+abbrev pub is_want : Why → Bool
+is_want Mentions = false
+is_want TooDeep = true
+is_want (Failed path cause) = false
+is_want OutOfSteps = true
+is_want (NotYet path) = false
+
 -- the terms are over the history's functions, with variables that a log can spell
 abbrev pub AreIn : History → List Term → Type 0
 AreIn h ts = Each (IsTermOf IsVariable (symbols_of h)) ts

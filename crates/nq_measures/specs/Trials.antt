@@ -1,5 +1,5 @@
 -- What is known of a recursive definition while a measure of it is sought, and of what was found.
-use Rattle.std.specs.Prelude.{◌≡◌, ◌≤◌, ◌∷◌, [], ⊤, ℕ, All, Option, Some, None, List, length, false}
+use Rattle.std.specs.Prelude.{◌≡◌, ◌≤◌, ◌⊎◌, ◌∷◌, [], ⊤, ℕ, All, Option, Some, None, List, length, false}
 use Rattle.nq_logic.specs.Terms.{Name, Symbol, Term, Variable, Each, value_at}
 use Rattle.nq_logic.specs.Words.{call1}
 use Rattle.nq_logic.specs.Sizes.{depth_of}
@@ -27,6 +27,7 @@ use Rattle.nq_measures.specs.declared.judging.Judged.{Judged}
 use Rattle.nq_measures.specs.declared.judging.Judged.TheVariants.{Shown, Open}
 use Rattle.nq_measures.specs.declared.falls.Owed.{Owed}
 use Rattle.nq_measures.specs.declared.evidence.Evidence.{Evidence}
+use Rattle.nq_measures.specs.declared.left.Left.{Left}
 
 -- a prover that has learnt the history may be asked over this work
 pub record IsSearching (IsLearnt : List Entry → Type 0) (history : List Entry) (work : Work) : Type 0 where
@@ -121,3 +122,47 @@ pub record IsEvidence (work : Work) (f : Sym) (formals : List Sym) (measure : Te
 -- the measure is no size of a variable in which the definition is structural
 abbrev pub IsNotStructural : List Entry → Content → List Sym → TermId → List Site → Type 0
 IsNotStructural history bank formals measure sites = (x : Name) → term_at bank measure ≡ size_of_variable x → AllDescend history bank formals x sites → ⊥
+
+-- what is left of a measure: the literals of a clause, over the work's bank
+pub record IsLeft (work : Work) (m : Term) (these : List Term) (left : Left) : Type 0 where
+  pub measure : IsIdOf work.bank left.measure m
+  pub literals : terms_at work.bank left.literals.items ≡ these
+  pub stand : All (Stands work.bank) left.literals.items
+
+-- lines show that the measure falls at the calls in their order, up to one whose obligation is the clause
+abbrev pub FallUntil : Work → Name → List Name → Term → List Call → List ℕ → List Term → Type 0
+FallUntil work f xs m [] ns these = ⊥
+FallUntil work f xs m (c ∷ calls) [] these = these ≡ obligation_at xs m c
+FallUntil work f xs m (c ∷ calls) (n ∷ ns) these = FallsBy work f xs m c n × FallUntil work f xs m calls ns these
+
+-- that the measure falls at one of the calls is left, after lines for those before it
+pub record IsFallLeft (work : Work) (f : Name) (xs : List Name) (m : Term) (calls : List Call) (left : Left) : Type 0 where
+  pub lines : List ℕ
+  pub these : List Term
+  pub falls : FallUntil work f xs m calls lines these
+  pub is : IsLeft work m these left
+
+-- the same after a line that the measure is an ordinal
+pub record IsOrdinalFallLeft (work : Work) (f : Name) (xs : List Name) (m : Term) (calls : List Call) (left : Left) : Type 0 where
+  pub older : mentions f m ≡ false
+  pub ordinal : ℕ
+  pub is_ordinal : LineHasOnly work ordinal (ordinal_clause m)
+  pub fall : IsFallLeft work f xs m calls left
+
+-- the first obligation of a measure that no line shows
+abbrev pub IsFirstLeft : Work → Name → List Name → Term → List Call → Left → Type 0
+IsFirstLeft work f xs m calls left = IsLeft work m (ordinal_clause m) left ⊎ IsOrdinalFallLeft work f xs m calls left
+
+-- the same of each measure, in their order
+abbrev pub AreLeft : Work → Name → List Name → List Call → List Term → List Left → Type 0
+AreLeft work f xs calls [] [] = ⊤
+AreLeft work f xs calls [] (l ∷ ls) = ⊥
+AreLeft work f xs calls (m ∷ ms) [] = ⊥
+AreLeft work f xs calls (m ∷ ms) (l ∷ ls) = IsFirstLeft work f xs m calls l × AreLeft work f xs calls ms ls
+
+-- what is left of a measure, told over a bank
+abbrev pub IsLeftAt : Content → Work → Sym → List Sym → TermId → List Site → Left → Type 0
+IsLeftAt bank work f formals measure sites left = IsFirstLeft work (text_at bank f) (texts_at bank formals) (term_at bank measure) (sites_at bank sites) left
+
+abbrev pub AreLeftAt : Content → Work → Sym → List Sym → List Site → List TermId → List Left → Type 0
+AreLeftAt bank work f formals sites tried left = AreLeft work (text_at bank f) (texts_at bank formals) (sites_at bank sites) (terms_at bank tried) left

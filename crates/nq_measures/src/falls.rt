@@ -1,14 +1,17 @@
 //! Lines that show that a measure falls at the calls of a function.
-ghost use Rattle.std.specs.Prelude.{◌≡◌, false, All, IfOk, IfSome};
+ghost use Rattle.std.specs.Prelude.{◌≡◌, false, All, IfErr, IfOk};
 ghost use Rattle.nq_logic.specs.Admissible.{mentions};
 ghost use Rattle.nq_bank.specs.Content.{Grows, IsNamed, Stands, text_at, term_at};
+ghost use Rattle.nq_bank.specs.Shells.{texts_at};
 ghost use Rattle.nq_kernel.specs.Growing.{WorkStands, WorkGrows, LineHolds};
 ghost use Rattle.nq_replay.specs.LawClauses.{choice_opens_clause};
 ghost use Rattle.nq_replay.specs.Uncounted.{GrowsUncounted};
-ghost use Rattle.nq_calls.specs.Calls.{SiteStands};
-ghost use Rattle.nq_measures.specs.Trials.{AreFallLines, IsFallLine, IsOwed, IsSearching, IsSiteOf, IsTrial, line_of};
+ghost use Rattle.nq_calls.specs.Calls.{SiteStands, site_at, sites_at};
+ghost use Rattle.nq_calls.specs.Falls.{obligation_at};
+ghost use Rattle.nq_measures.specs.Trials.{AreFallLines, IsFallLeft, IsFallLine, IsLeft, IsOwed, IsSearching, IsSiteOf, IsTrial};
 
-use crate::judging::{Judged, judge_fall};
+use crate::judging::judge_fall;
+use crate::left::{Left, told};
 use nq_bank::{Bank, BankFault, Sym, TermId};
 use nq_calls::{Site, fall_literals, measure_at};
 use nq_history::History;
@@ -43,39 +46,28 @@ fn make_owed(
     Ok(Owed { smaller, literals })
 }
 
-/// Makes what a call owes to a measure, where no term of it is too deep.
+/// Makes what a call owes to a measure. A measure and an argument of a body have room for each other, so no term of it is too deep.
 fn owed_at(
     work: &mut Work,
     history: &History,
     formals: &[Sym],
     measure: TermId,
     site: &Site,
-) -> Result<Option<Owed>, AllocError>
+) -> Result<Owed, AllocError>
     requires stands { WorkStands history.now work.old }
     requires formals { All (IsNamed work.old.bank) formals.now }
     requires measure { Stands work.old.bank measure }
     requires site { SiteStands work.old.bank site.now }
-    ensures owed { IfOk result (λ found. IfSome found (IsOwed work.new.bank formals.now measure site.now)) }
+    ensures owed { IfOk result (IsOwed work.new.bank formals.now measure site.now) }
     ensures grows { GrowsUncounted history.now work.old work.new }
 {
     match make_owed(&mut work.bank, formals, measure, site) {
-        Ok(owed) => Ok(Some(owed)),
-        Err(BankFault::Deep) => Ok(None),
-        Err(BankFault::Memory) => Err(AllocError),
+        Ok(owed) => Ok(owed),
+        Err(_) => Err(AllocError),
     }
 }
 
-/// The line of an obligation, if it is shown.
-pub(crate) fn shown_line(judged: Judged) -> Option<u64>
-    ensures { result ≡ line_of judged }
-{
-    match judged {
-        Judged::Shown(line) => Some(line),
-        Judged::Open(_) => None,
-    }
-}
-
-/// Seeks the line that shows that the measure falls at a call.
+/// Seeks the line that shows that the measure falls at a call, or tells what is left.
 fn find_fall<P: Prover>(
     prover: &mut P,
     work: &mut Work,
@@ -85,28 +77,25 @@ fn find_fall<P: Prover>(
     formals: &[Sym],
     measure: TermId,
     site: &Site,
-) -> Result<Option<u64>, AllocError>
+) -> Result<Result<u64, Left>, AllocError>
     requires searching { IsSearching (P.has_learnt prover.old) history.now work.old }
     requires law { LineHolds work.old law choice_opens_clause }
     requires trial { IsTrial history.now work.old.bank f formals.now measure }
     requires older { mentions (text_at work.old.bank f) (term_at work.old.bank measure) ≡ false }
     requires site { IsSiteOf history.now work.old.bank f formals.now site.now }
-    ensures found { IfOk result (λ found. IfSome found (IsFallLine work.new f formals.now measure site.now)) }
+    ensures found { IfOk result (λ r. IfOk r (IsFallLine work.new f formals.now measure site.now)) }
+    ensures left { IfOk result (λ r. IfErr r (IsLeft work.new (term_at work.old.bank measure) (obligation_at (texts_at work.old.bank formals.now) (term_at work.old.bank measure) (site_at work.old.bank site.now)))) }
     ensures grows { WorkGrows history.now work.old work.new }
     ensures searching { IsSearching (P.has_learnt prover.new) history.now work.new }
 {
     held_work();
-    match owed_at(work, history, formals, measure, site)? {
-        None => Ok(None),
-        Some(owed) => {
-            let literals = owed.literals.as_slice();
-            let judged = judge_fall(prover, work, history, law, f, owed.smaller, literals)?;
-            Ok(shown_line(judged))
-        }
-    }
+    let owed = owed_at(work, history, formals, measure, site)?;
+    let literals = owed.literals.as_slice();
+    let judged = judge_fall(prover, work, history, law, f, owed.smaller, literals)?;
+    Ok(told(judged, measure, owed.literals))
 }
 
-/// Seeks the lines that show that the measure falls at each call.
+/// Seeks the lines that show that the measure falls at each call, or tells the first that is left.
 pub(crate) fn find_falls<P: Prover>(
     prover: &mut P,
     work: &mut Work,
@@ -116,13 +105,14 @@ pub(crate) fn find_falls<P: Prover>(
     formals: &[Sym],
     measure: TermId,
     sites: &[Site],
-) -> Result<Option<Vec<u64>>, AllocError>
+) -> Result<Result<Vec<u64>, Left>, AllocError>
     requires searching { IsSearching (P.has_learnt prover.old) history.now work.old }
     requires law { LineHolds work.old law choice_opens_clause }
     requires trial { IsTrial history.now work.old.bank f formals.now measure }
     requires older { mentions (text_at work.old.bank f) (term_at work.old.bank measure) ≡ false }
     requires sites { All (IsSiteOf history.now work.old.bank f formals.now) sites.now }
-    ensures found { IfOk result (λ found. IfSome found (λ falls. AreFallLines work.new f formals.now measure sites.now falls.items)) }
+    ensures found { IfOk result (λ r. IfOk r (λ falls. AreFallLines work.new f formals.now measure sites.now falls.items)) }
+    ensures left { IfOk result (λ r. IfErr r (IsFallLeft work.new (text_at work.old.bank f) (texts_at work.old.bank formals.now) (term_at work.old.bank measure) (sites_at work.old.bank sites.now))) }
     ensures grows { WorkGrows history.now work.old work.new }
     ensures searching { IsSearching (P.has_learnt prover.new) history.now work.new }
 {
@@ -130,9 +120,9 @@ pub(crate) fn find_falls<P: Prover>(
     let mut falls = Vec::new(work.bank.alloc());
     for site in sites {
         match find_fall(prover, work, history, law, f, formals, measure, site)? {
-            None => return Ok(None),
-            Some(line) => falls.push(line)?,
+            Err(left) => return Ok(Err(left)),
+            Ok(line) => falls.push(line)?,
         }
     }
-    Ok(Some(falls))
+    Ok(Ok(falls))
 }

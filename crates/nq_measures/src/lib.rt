@@ -17,9 +17,10 @@ mod judging;
 // what the lines of a measure show
 mod laws;
 
-// lines that show that a measure falls at each call
+// lines that show that a measure falls at each call, and what is left where there are none
 mod evidence;
 mod falls;
+mod left;
 
 // sizes of variables that fall without a proof
 mod descents;
@@ -31,8 +32,9 @@ mod tried;
 // the first of some measures that admits a definition
 mod finding;
 
-pub use finding::{Admitting, find_measure};
+pub use finding::{Admitting, Sought, find_measure};
 pub use judging::{Judged, Why, judge, judge_fall};
 pub use laws::{admitting_is_measure, measure_falls};
+pub use left::Left;
 pub use openings::{nest_of, open_nest};
 pub use tried::tried_measures;

@@ -3,7 +3,6 @@ pub mod TautologyLemmas
 pub mod DepthLemmas
 pub mod LineLemmas
 pub mod InLemmas
-pub mod CheckedLemmas
 pub mod GrownLemmas
 pub mod RowLemmas
 pub mod SplitLemmas
@@ -17,6 +16,5 @@ pub mod CoveringLemmas
 pub mod ProvingLemmas
 pub mod EarlierLemmas
 pub mod EventLemmas
-pub mod ReadyLemmas
 pub mod FragmentLemmas
 pub mod FirstPassLemmas

@@ -67,6 +67,3 @@ pub use first_pass::quick;
 pub use first_pass_prover::FirstPass;
 pub use heads::Head;
 pub use tautology::{is_small_tautology, small_tautology};
-
-#[cfg(test)]
-mod tests;

@@ -32,7 +32,7 @@ pub fn by_assumption(
 }
 
 /// A term that is known to be false is F.
-fn false_where_known(
+pub fn false_where_known(
     work: &mut Work,
     history: &History,
     assumed: &[TermId],

@@ -45,13 +45,16 @@ mod settling;
 
 // what rows make of a term
 mod rows;
+mod trials;
 
 // the kinds of objects just made
 mod made;
 
 // the mechanisms
+mod bases;
 mod distinct;
 mod equations;
+mod recognizing;
 mod shells;
 mod truths;
 

@@ -4,10 +4,12 @@ ghost use Rattle.nq_bank.specs.Content.{term_at, terms_at};
 ghost use Rattle.nq_kernel.specs.Growing.{WorkGrows};
 ghost use Rattle.nq_reduce.specs.Rewriting.{CanRewrite, IsRewritten};
 
+use crate::bases::by_base;
 use crate::distinct::by_distinct;
 use crate::equations::by_assumed_equation;
+use crate::recognizing::by_kind;
 use crate::results::Rewritten;
-use crate::shells::{by_kind, by_shell};
+use crate::shells::by_shell;
 use crate::truths::by_truth;
 use crate::values::by_value;
 use nq_bank::TermId;
@@ -110,6 +112,26 @@ fn reduce_by_kind(
     if step.line.is_some() {
         Ok(step)
     } else {
-        by_distinct(work, history, assumed, t)
+        reduce_by_distinct(work, history, assumed, t)
+    }
+}
+
+/// The same, where it is no recognizer that is told.
+fn reduce_by_distinct(
+    work: &mut Work,
+    history: &History,
+    assumed: &[TermId],
+    t: TermId,
+) -> Result<Rewritten, Stop>
+    requires can { CanRewrite history.now work.old assumed.now t }
+    ensures ok { IfOk result (λ r. IsRewritten history.now work.new (terms_at work.old.bank assumed.now) (term_at work.old.bank t) r) }
+    ensures grows { WorkGrows history.now work.old work.new }
+    ensures out { result ≡ Err Stop.OutOfSteps → work.new.counter.used ≡ work.new.counter.limit }
+{
+    let step = by_distinct(work, history, assumed, t)?;
+    if step.line.is_some() {
+        Ok(step)
+    } else {
+        by_base(work, history, assumed, t)
     }
 }

@@ -132,7 +132,7 @@ fn settled_by_value(
 }
 
 /// What is known of a term by its value.
-fn known_by_value(
+pub fn known_by_value(
     work: &mut Work,
     history: &History,
     assumed: &[TermId],
@@ -330,7 +330,7 @@ fn by_turned(
 }
 
 /// The same, by what is known of the turned equation.
-fn turned_back(
+pub fn turned_back(
     work: &mut Work,
     history: &History,
     assumed: &[TermId],

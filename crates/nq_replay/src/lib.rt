@@ -11,6 +11,7 @@ mod lines;
 // the tables of laws
 mod table;
 mod tables;
+pub mod words;
 
 // what a table names, in a bank
 mod parts;

@@ -20,6 +20,10 @@ mod measures;
 mod search;
 mod way;
 
+// what is known of the kinds of calls
+mod kinded;
+mod kinds;
+
 // single steps
 mod steps;
 
@@ -34,4 +38,5 @@ mod testing;
 mod entrance;
 
 pub use entrance::{rewrite, rewrite_by, rewritten};
+pub use kinds::{kind_line, known_recognizer, one_call};
 pub use rules::{Rules, make_rules};

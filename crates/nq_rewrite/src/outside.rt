@@ -6,6 +6,7 @@ ghost use Rattle.nq_kernel.specs.Growing.{WorkGrows};
 ghost use Rattle.nq_reduce.specs.Held.{IsHeld};
 ghost use Rattle.nq_reduce.specs.Rewriting.{CanRewrite, IsRewritten};
 
+use crate::kinded::reduce_kinded;
 use crate::opening::rewrite_by_opening;
 use crate::reducing::try_rules;
 use crate::rewriting::rewrite_term;
@@ -17,7 +18,7 @@ use nq_bank::TermId;
 use nq_history::History;
 use nq_kernel::{Stop, Work};
 use nq_lines::Fact;
-use nq_reduce::{Rewritten, follow, reduce_call, rewritten_by, unchanged};
+use nq_reduce::{Rewritten, follow, rewritten_by, unchanged};
 
 /// Rewrites a term whose arguments were rewritten, and then what comes of it.
 #[cycle(rewriting)]
@@ -59,7 +60,7 @@ fn rewrite_call(
     ensures grows { WorkGrows history.now work.old work.new }
     ensures out { result ≡ Err Stop.OutOfSteps → work.new.counter.used ≡ work.new.counter.limit }
 {
-    let step = reduce_call(work, history, assumed, t)?;
+    let step = reduce_kinded(work, history, assumed, t)?;
     match step.line {
         Some(_) => rewrite_on(work, history, way, search, assumed, depth, t, step),
         None => rewrite_further(work, history, way, search, assumed, depth, t),

@@ -20,6 +20,3 @@ mod shapes;
 pub use heads::{one_of, two_of};
 pub use parts::{conclusion_of, is_call, left_side};
 pub use shapes::{fits, fits_elim, fits_generalize, fits_rewrite};
-
-#[cfg(test)]
-mod tests;

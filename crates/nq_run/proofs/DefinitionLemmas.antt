@@ -97,8 +97,8 @@ module _ (h : History) (name : Name) (formals : List Name) (body : Term) (measur
     spelled = (variables formals spelled.function.formals_spelled (definable none).formals_are.variables, small_depth body spelled.small);
   }
 
-  pub defn_outcome : (form : Form) → mentions name body ≡ false → IsDefined (mentions name body) h form name formals body measures Accepted
-  defn_outcome form plain = subst (λ (b : Bool). IsDefined b h form name formals body measures Accepted) (sym plain) refl
+  pub defn_outcome : mentions name body ≡ false → IsDefined (mentions name body) h name formals body measures Accepted
+  defn_outcome plain = subst (λ (b : Bool). IsDefined b h name formals body measures Accepted) (sym plain) refl
 
   -- a definition that calls its own function
   pub can_try : untaken h (model.Defn name formals body measures) ≡ None → mentions name body ≡ true → IsSpelledDefinition h name formals body → CanTry h name formals body

@@ -6,6 +6,7 @@ pub mod SessionLemmas
 pub mod ProvingLemmas
 pub mod TakingLemmas
 pub mod HintLemmas
+pub mod TrialLemmas
 pub mod RecursionLemmas
 pub mod UndoingLemmas
 pub mod ShellLemmas

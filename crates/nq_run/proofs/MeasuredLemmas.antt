@@ -29,12 +29,13 @@ use Rattle.nq_kernel.specs.Ready.{IsReadyEvent, body_depth}
 use Rattle.nq_block.specs.Blocks.{IsBlock}
 use Rattle.nq_block.specs.Closings.{FunctionNames, IsFree}
 use Rattle.nq_log.specs.States.{Adds}
-use Rattle.nq_comment.specs.Reports.{Answer, AcceptedBy}
+use Rattle.nq_comment.specs.Reports.{Answer, AcceptedBy, Unmeasured, Trial}
 use Rattle.nq_comment.specs.ReportViews.{answer_of}
 use Rattle.nq_measures.specs.Admitting.{NoneIsStructural}
 use Rattle.nq_spelling.specs.SpelledEvents.{IsSpelledMeasure, IsSpelledRecursion}
 use Rattle.nq_answers.specs.Claims.{claims_of}
-use Rattle.nq_answers.specs.Steps.{AnswersUnless, IsDefined, after_event, measured_definition, not_yet, untaken}
+use Rattle.nq_answers.specs.Measuring.{AreTrials}
+use Rattle.nq_answers.specs.Steps.{AnswersUnless, IsDefined, after_event, measured_definition, untaken}
 use Rattle.nq_run.specs.declared.recursions.Kept.{Kept}
 use Rattle.nq_run.specs.declared.session.Session.{Session}
 use Rattle.nq_run.specs.declared.session.Taken.{Taken}
@@ -147,13 +148,17 @@ module _ (old : Session) (grown : Content) (name : Sym) (formals : List Sym) (bo
     not_structural told is = back (λ (k : History) (n : Name) (ys : List Name) (u : Term). Each (λ x. IsAmong (size_measure x) (terms_at grown tried)) ys → IsStructural [] (plain_definition n ys u) → ⊥) is
         (subst (λ (ts : List Term). Each (λ x. IsAmong (size_measure x) ts) xs) (sym told) (sizes_tried ms xs))
 
-    pub left : (form : Form) (logging : Bool) (r : Taken) → terms_at grown tried ≡ tried_measures xs ms → NoneIsStructural old.history grown name formals body tried
-        → IsUntaken (record { bank = bank; history = old.history }) (not_yet form) r → TakesEvent h form (model.Defn f xs t ms) logging r
-    left form logging r told is kept =
-        let own : IsUntaken old (not_yet form) r = record { entries = kept.entries; same = kept.same ∙ session_same; stands = kept.stands; answer_is = kept.answer_is; block_is = kept.block_is } in
-        untaken_as old form (model.Defn f xs t ms) logging (not_yet form) r own refl
-        (subst (λ (o : Option Answer). AnswersUnless o h form (model.Defn f xs t ms) (not_yet form)) (sym none)
-        (subst (λ (b : Bool). IsDefined b h form f xs t ms (not_yet form)) (sym again) (inr (record { plain = not_structural told is; answer_is = refl }))))
+    pub left : (form : Form) (logging : Bool) (trials : List Trial) (r : Taken) → terms_at grown tried ≡ tried_measures xs ms → NoneIsStructural old.history grown name formals body tried
+        → AreTrials (events_at grown old.history) (plain_definition (text_at grown name) (texts_at grown formals) (term_at grown body)) (terms_at grown tried) trials
+        → IsUntaken (record { bank = bank; history = old.history }) (Unmeasured trials) r → TakesEvent h form (model.Defn f xs t ms) logging r
+    left form logging trials r told is all kept =
+        let answer : Answer = Unmeasured trials in
+        let own : IsUntaken old answer r = record { entries = kept.entries; same = kept.same ∙ session_same; stands = kept.stands; answer_is = kept.answer_is; block_is = kept.block_is } in
+        let here : AreTrials h (plain_definition f xs t) (tried_measures xs ms) trials = subst (λ (ts : List Term). AreTrials h (plain_definition f xs t) ts trials) told
+        (back (λ (k : History) (n : Name) (ys : List Name) (u : Term). AreTrials k (plain_definition n ys u) (terms_at grown tried) trials) all) in
+        untaken_as old form (model.Defn f xs t ms) logging answer r own refl
+        (subst (λ (o : Option Answer). AnswersUnless o h form (model.Defn f xs t ms) answer) (sym none)
+        (subst (λ (b : Bool). IsDefined b h f xs t ms answer) (sym again) (inr (record { plain = not_structural told is; trials = trials; told = here; answer_is = refl }))))
 
     -- a measure is kept
     pub taken : (form : Form) (logging : Bool) (kept : Kept) (block : List ℕ) (r : Taken) → terms_at grown tried ≡ tried_measures xs ms → IsKept grown old.history name formals body tried kept
@@ -171,7 +176,7 @@ module _ (old : Session) (grown : Content) (name : Sym) (formals : List Sym) (bo
         record {
           answered = subst (AnswersUnless (untaken h event) h form event) (sym says)
               (subst (λ (o : Option Answer). AnswersUnless o h form event (AcceptedBy kept.place (printed m))) (sym none)
-              (subst (λ (b : Bool). IsDefined b h form f xs t ms (AcceptedBy kept.place (printed m))) (sym again)
+              (subst (λ (b : Bool). IsDefined b h f xs t ms (AcceptedBy kept.place (printed m))) (sym again)
               (inl (record { place = kept.place; measure = m; tried = place; admissible = admissible_here kept is; answer_is = refl }))));
           after_is = later ∙ ap (λ (o : Option Term). h ++ defined f xs t o ∷ []) (sym place) ∙ sym (ap (after_event h event) says);
           stands = held;

@@ -1,13 +1,13 @@
 -- The try of a recursive definition, over a bank that its proof grows.
 use Rattle.std.proofs.Common.{◌≡◌, inl, inr, ℕ, zero, suc, Bool, true, false, List, [], ◌∷◌, ◌++◌, length, map, refl, sym, subst}
-use Rattle.std.specs.Prelude.{All, IfSome, MatchOption, Option, None, Some, if◌then◌else◌, slice_get}
+use Rattle.std.specs.Prelude.{All, IfNone, IfSome, MatchOption, Option, None, Some, if◌then◌else◌, slice_get}
 use Rattle.std.specs.Option.{option_map}
 use Rattle.nq_logic.specs.Terms.{Applied, Each, Function, IsAmong, Name, Symbol, Term, Variable}
 use Rattle.nq_logic.specs.Words.{call1}
 use Rattle.nq_logic.specs.Ground.{symbols_of}
 use Rattle.nq_logic.specs.Histories.{Defines, History}
 use Rattle.nq_logic.specs.Admissible.{Call, HasVariables, IsAdmissible, IsMeasured, calls_of}
-use Rattle.nq_logic.proofs.Symbols.{count_symbol, fix_symbol}
+use Rattle.nq_logic.proofs.Symbols.{count_symbol, fix_symbol, not_symbol}
 use Rattle.nq_logic.proofs.Tests.{names_distinct_law, variables_told_law}
 use Rattle.nq_bank.specs.declared.node.Sym.{Sym}
 use Rattle.nq_bank.specs.declared.node.TermId.{TermId}
@@ -34,13 +34,20 @@ use Rattle.nq_events.specs.Measures.{ordinal_of, size_measure, tried_measures}
 use Rattle.nq_measures.specs.declared.finding.Admitting.{Admitting}
 use Rattle.nq_measures.specs.Admitting.{AdmittingIsMeasure, IsAdmitting, IsNewFunction, NoneIsStructural}
 use Rattle.nq_measures.specs.Admitting as found
-use Rattle.nq_measures.specs.Trials.{IsTrial}
+use Rattle.nq_measures.specs.Trials.{AreLeft, IsTrial}
+use Rattle.nq_measures.specs.declared.left.Left.{Left}
+use Rattle.nq_measures.proofs.CalledLemmas.{body_calls}
+use Rattle.nq_calls.specs.Calls.{counted_calls}
+use Rattle.nq_events.specs.AllowedEvents.{plain_definition}
+use Rattle.nq_comment.specs.Reports.{Trial}
+use Rattle.nq_answers.specs.Measuring.{AreTrials}
 use Rattle.nq_spelling.specs.SpelledEvents.{IsSpelledMeasure}
 use Rattle.nq_answers.specs.Steps.{measured_definition}
 use Rattle.nq_run.specs.declared.recursions.Kept.{Kept}
 use Rattle.nq_run.specs.Outcome.{AreBlocks}
-use Rattle.nq_run.specs.Recursions.{IsKept, IsTriable, IsTriedTerm, kept_claims, kept_of}
+use Rattle.nq_run.specs.Recursions.{IsKept, IsTriable, IsTriedTerm, LeftStands, kept_claims, kept_of, trials_at}
 use Rattle.nq_run.proofs.HintLemmas.{each_all}
+use Rattle.nq_run.proofs.TrialLemmas.{left_stand, trials_told}
 use Rattle.nq_run.proofs.ReadyLemmas.{small_depth}
 
 -- ---- lists
@@ -252,3 +259,25 @@ module _ (bank : Content) (history : List Entry) (name : Sym) (formals : List Sy
     pub block_is : (o : Option Admitting) (kept : Option Kept) (text : List ℕ) → kept ≡ option_map kept_of o → MatchOption o (NoneIsStructural history begun name formals body tried) (IsAdmitting history begun work name formals body tried)
         → AreBlocks (events_at work.bank history) (kept_claims work.bank name formals body (option_map kept_of o)) text → AreBlocks (events_at bank history) (kept_claims bank name formals body kept) text
     block_is o kept text e it written = subst (λ (k : Option Kept). AreBlocks (events_at bank history) (kept_claims bank name formals body k) text) (sym e) (block_by o text it written)
+
+    -- what is told of each measure that was tried, where none is kept
+    trials_by : (ls : List Left) → WorkHolds history work → AreLeft work (text_at begun name) (texts_at begun formals) (counted_calls (text_at begun name) (term_at begun body)) (terms_at begun tried) ls
+        → AreTrials (events_at bank history) (plain_definition (text_at bank name) (texts_at bank formals) (term_at bank body)) (terms_at bank tried) (trials_at work.bank ls)
+    trials_by ls holds left =
+        trials_told (events_at bank history) (plain_definition (text_at bank name) (texts_at bank formals) (term_at bank body)) work (subst (λ (h : History). LinesHold h (clause_at work.bank work.log)) events_later holds)
+        (body_calls symbols_at (inr (not_symbol (events_at bank history))) (text_at bank name) (term_at bank body) is.can.spelled.over (small_depth (term_at bank body) is.can.spelled.small))
+        (terms_at bank tried) ls is.terms
+        (subst (λ (b : Content). AreLeft work (text_at b name) (texts_at b formals) (counted_calls (text_at b name) (term_at b body)) (terms_at b tried) ls) same left)
+
+    pub trials_if : (o : Option Admitting) (kept : Option Kept) (ls : List Left) (trials : List Trial) → kept ≡ option_map kept_of o
+        → IfNone o (AreLeft work (text_at begun name) (texts_at begun formals) (counted_calls (text_at begun name) (term_at begun body)) (terms_at begun tried) ls)
+        → IfNone o (trials ≡ trials_at work.bank ls) → WorkHolds history work
+        → IfNone kept (AreTrials (events_at bank history) (plain_definition (text_at bank name) (texts_at bank formals) (term_at bank body)) (terms_at bank tried) trials)
+    trials_if (Some a) kept ls trials e left are holds = subst (λ (k : Option Kept). IfNone k (AreTrials (events_at bank history) (plain_definition (text_at bank name) (texts_at bank formals) (term_at bank body)) (terms_at bank tried) trials)) (sym e) tt
+    trials_if None kept ls trials e left are holds =
+        subst (λ (k : Option Kept). IfNone k (AreTrials (events_at bank history) (plain_definition (text_at bank name) (texts_at bank formals) (term_at bank body)) (terms_at bank tried) trials)) (sym e)
+        (subst (λ (rs : List Trial). AreTrials (events_at bank history) (plain_definition (text_at bank name) (texts_at bank formals) (term_at bank body)) (terms_at bank tried) rs) (sym are) (trials_by ls holds left))
+
+    pub left_if : (o : Option Admitting) (ls : List Left) → IfNone o (AreLeft work (text_at begun name) (texts_at begun formals) (counted_calls (text_at begun name) (term_at begun body)) (terms_at begun tried) ls) → IfNone o (All (LeftStands work.bank) ls)
+    left_if (Some a) ls left = tt
+    left_if None ls left = left_stand work (text_at begun name) (texts_at begun formals) (counted_calls (text_at begun name) (term_at begun body)) (terms_at begun tried) ls left

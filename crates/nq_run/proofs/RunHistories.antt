@@ -18,7 +18,7 @@ use Rattle.nq_events.specs.Events.{Event, Hints, Measure, BootStrap, AddShell, D
 use Rattle.nq_events.specs.OwnRefusals.{own_refusal}
 use Rattle.nq_events.specs.Reading.{event_of, event_refusal}
 use Rattle.nq_events.specs.Refusals.{Refusal}
-use Rattle.nq_comment.specs.Reports.{Answer, Accepted, AcceptedBy, Failed, OutOfSteps, Proved, ProvedFrom, Report, Skipped, Undone, Taut, Eval, Inst}
+use Rattle.nq_comment.specs.Reports.{Answer, Accepted, AcceptedBy, Unmeasured, Failed, OutOfSteps, Proved, ProvedFrom, Report, Skipped, Undone, Taut, Eval, Inst}
 use Rattle.nq_comment.specs.declared.step.Cause.TheVariants.{False, NoInduction}
 use Rattle.nq_goals.specs.Hints.{first_goal}
 use Rattle.nq_language.specs.Printing.{printed}
@@ -94,7 +94,7 @@ module _ (h : History) (form : Form) (made : IsMade h) where
 
   -- a definition that is tried
   definition_made : (name : Name) (formals : List Name) (body : Term) (measures : List Measure) (answer : Answer) → own_refusal h (Defn name formals body measures) ≡ None
-      → ((m : Option Term) → IsGrown (h ++ defined name formals body m ∷ [])) → IsSpelledDefinition h name formals body → (b : Bool) → mentions name body ≡ b → IsDefined b h form name formals body measures answer
+      → ((m : Option Term) → IsGrown (h ++ defined name formals body m ∷ [])) → IsSpelledDefinition h name formals body → (b : Bool) → mentions name body ≡ b → IsDefined b h name formals body measures answer
       → IsMade (after_event h (Defn name formals body measures) answer)
   definition_made name formals body measures answer own grow spelled b recursive so = by_test b recursive so
     where
@@ -110,13 +110,13 @@ module _ (h : History) (form : Form) (made : IsMade h) where
       gained : (m : Option Term) → IsReadyEvent h (defined name formals body m) → Defines m
       gained m ready = gains (defined name formals body m) name (defn_free h name formals body measures none spelled) ready (omega arith) (grow m)
 
-      recursion : IsRecursionTried h form name formals body measures answer → IsMade (after_event h e answer)
+      recursion : IsRecursionTried h name formals body measures answer → IsMade (after_event h e answer)
       recursion (inl accepted) =
           answered e answer (AcceptedBy accepted.place (printed accepted.measure)) accepted.answer_is
           (subst Defines (sym accepted.tried) (gained (Some accepted.measure) (definition_ready h name formals body measures (Some accepted.measure) none spelled accepted.admissible)))
-      recursion (inr unmeasured) = answered e answer (not_yet form) unmeasured.answer_is made
+      recursion (inr unmeasured) = answered e answer (Unmeasured unmeasured.trials) unmeasured.answer_is made
 
-      by_test : (b : Bool) → mentions name body ≡ b → IsDefined b h form name formals body measures answer → IsMade (after_event h e answer)
+      by_test : (b : Bool) → mentions name body ≡ b → IsDefined b h name formals body measures answer → IsMade (after_event h e answer)
       by_test false plain so = answered e answer Accepted so (gained None (defined_ready h name formals body (can_define h name formals body measures none plain spelled) spelled))
       by_test true again so = recursion so
 

@@ -1,5 +1,5 @@
 -- How a recursive definition is tried.
-use Rattle.std.specs.Prelude.{◌≡◌, Bool, true, List, [], ◌∷◌, length, All, MatchOption, Option, Some, None, slice_get}
+use Rattle.std.specs.Prelude.{◌≡◌, Bool, true, List, [], ◌∷◌, length, map, All, IfNone, MatchOption, Option, Some, None, slice_get}
 use Rattle.nq_logic.specs.Terms.{Each, Name, Symbol, Term}
 use Rattle.nq_logic.specs.Ground.{symbols_of}
 use Rattle.nq_logic.specs.Histories.{History}
@@ -15,7 +15,14 @@ use Rattle.nq_kernel.specs.Over.{IsTermOf, IsVariable}
 use Rattle.nq_log.specs.States.{Claim}
 use Rattle.nq_block.specs.Closings.{FunctionNames, IsFree, recursion_at}
 use Rattle.nq_measures.specs.declared.finding.Admitting.{Admitting}
+use Rattle.nq_measures.specs.declared.left.Left.{Left}
 use Rattle.nq_measures.specs.Admitting.{NoneIsStructural}
+use Rattle.nq_language.specs.Printing.{printed}
+use Rattle.nq_events.specs.AllowedEvents.{plain_definition}
+use Rattle.nq_comment.specs.Reports.{Trial}
+use Rattle.nq_comment.specs.ReportViews.{trials_of}
+use Rattle.nq_answers.specs.Goals.{goal_text}
+use Rattle.nq_answers.specs.Measuring.{AreTrials}
 use Rattle.nq_spelling.specs.SpelledEvents.{IsSpelledDefinition}
 use Rattle.nq_answers.specs.Steps.{measured_definition}
 use Rattle.nq_run.specs.declared.recursions.Kept.{Kept}
@@ -58,8 +65,22 @@ abbrev pub kept_claims : Content → Sym → List Sym → TermId → Option Kept
 kept_claims bank name formals body None = []
 kept_claims bank name formals body (Some kept) = recursion_at bank name formals body kept.measure ∷ []
 
--- The try of a recursive definition: the bank as it was, the measure that admits the definition, and the block of its claim.
+-- what is left of a measure stands in the bank
+pub record LeftStands (bank : Content) (left : Left) : Type 0 where
+  pub measure : Stands bank left.measure
+  pub literals : All (Stands bank) left.literals.items
+
+-- what is told of a measure that is not proved
+abbrev pub trial_at : Content → Left → Trial
+trial_at bank left = record { measure = printed (term_at bank left.measure); goal = goal_text (terms_at bank left.literals.items); out_of_steps = left.out_of_steps }
+
+abbrev pub trials_at : Content → List Left → List Trial
+trials_at bank left = map (trial_at bank) left
+
+-- The try of a recursive definition: the bank as it was, the measure that admits the definition, what is told of each that was
+-- tried where none does, and the block of its claim.
 pub record IsSought (bank : Content) (history : List Entry) (name : Sym) (formals : List Sym) (body : TermId) (tried : List TermId) (logging : Bool) (r : TriedRecursion) : Type 0 where
   pub same : r.bank ≡ bank
   pub kept : MatchOption r.kept (NoneIsStructural history bank name formals body tried) (IsKept bank history name formals body tried)
+  pub told : IfNone r.kept (AreTrials (events_at bank history) (plain_definition (text_at bank name) (texts_at bank formals) (term_at bank body)) (terms_at bank tried) (trials_of r.trials.items))
   pub written : logging ≡ true → AreBlocks (events_at bank history) (kept_claims bank name formals body r.kept) r.block

@@ -30,7 +30,7 @@ use nq_print::print_term;
 use std::alloc::{AllocError, Global};
 
 impl Session {
-    /// The function is defined, where one of the measures that are tried is proved.
+    /// The function is defined, where one of the measures that are tried is proved. Else each of them is told.
     pub(crate) fn define_recursive<P: Prover>(
         self,
         alloc: Global,
@@ -75,7 +75,7 @@ impl Session {
             history,
         };
         match sought.kept {
-            None => session.not_yet(alloc, given.mark, given.form),
+            None => Ok(session.untaken(alloc, given.mark, FormAnswer::Unmeasured(sought.trials))),
             Some(kept) => session.measured(
                 alloc,
                 prover,

@@ -1,5 +1,5 @@
 // The try of a recursive definition.
-ghost use Rattle.std.specs.Prelude.{◌≡◌, ◌++◌, IfOk, IfSome, [], true};
+ghost use Rattle.std.specs.Prelude.{◌≡◌, ◌++◌, All, IfNone, IfOk, IfSome, [], true};
 ghost use Rattle.std.specs.Option.{option_map};
 ghost use Rattle.nq_bank.specs.Content.{term_at, text_at};
 ghost use Rattle.nq_bank.specs.Marks.{CanRelease, released};
@@ -12,16 +12,20 @@ ghost use Rattle.nq_kernel.specs.Ready.{IsReady};
 ghost use Rattle.nq_block.specs.Closings.{CanRecur, FunctionNames};
 ghost use Rattle.nq_block.specs.Names.{HasSymbols};
 ghost use Rattle.nq_bank.specs.Content.{Stands};
+ghost use Rattle.nq_comment.specs.ReportViews.{trial_of, trials_of};
 ghost use Rattle.nq_run.specs.Outcome.{AreBlocks};
-ghost use Rattle.nq_run.specs.Recursions.{IsSought, IsTriable, kept_claims, kept_of};
+ghost use Rattle.nq_run.specs.Recursions.{IsSought, IsTriable, LeftStands, kept_claims, kept_of, trial_at, trials_at};
 
 use crate::proving::block_of;
 use nq_bank::{Bank, Mark, Sym, TermId};
 use nq_block::{Closing, Measured};
+use nq_comment::Trial;
+use nq_first_goal::goal_text;
 use nq_history::History;
 use nq_kernel::{Log, Prover, Work, held_work};
 use nq_logtext::Text;
-use nq_measures::{Admitting, admitting_is_measure, find_measure};
+use nq_measures::{Admitting, Left, Sought, admitting_is_measure, find_measure};
+use nq_print::print_term;
 use std::alloc::{AllocError, Global};
 
 /// A recursive definition whose measure is sought.
@@ -39,12 +43,13 @@ pub(crate) struct Kept {
     pub(crate) measure: TermId,
 }
 
-/// The try of a recursive definition: the bank as it was before, the measure that admits the definition, and the block of what
-/// it claims.
+/// The try of a recursive definition: the bank as it was before, the measure that admits the definition, what is told of those
+/// that were tried where none does, and the block of what it claims.
 #[derive(Drop)]
 pub(crate) struct TriedRecursion {
     pub(crate) bank: Bank,
     pub(crate) kept: Option<Kept>,
+    pub(crate) trials: Vec<Trial>,
     pub(crate) block: Text,
 }
 
@@ -72,7 +77,7 @@ pub(crate) fn try_recursion<P: Prover>(
     admitting_is_measure();
     let mark = bank.mark();
     let mut work = Work::new(bank, Log::new(alloc), steps);
-    let found = find_measure(
+    let measured = find_measure(
         prover,
         &mut work,
         history,
@@ -81,37 +86,73 @@ pub(crate) fn try_recursion<P: Prover>(
         recursion.body,
         tried,
     )?;
-    let sought = recursion_by(alloc, work, history, recursion, found, logging)?;
+    let sought = recursion_by(alloc, work, history, recursion, measured, logging)?;
     Ok(returned(sought, mark))
 }
 
-/// The try that made this work: the block of the definition, where a measure was found.
+/// What is told of a measure that is not proved.
+fn told_trial(alloc: Global, bank: &Bank, left: &Left) -> Result<Trial, AllocError>
+    requires { LeftStands bank.now left.now }
+    ensures { IfOk result (λ t. trial_of t ≡ trial_at bank.now left.now) }
+{
+    let mut measure = Vec::new(alloc);
+    print_term(bank, left.measure, &mut measure)?;
+    let goal = goal_text(bank, left.literals.as_slice())?;
+    Ok(Trial {
+        measure,
+        goal,
+        out_of_steps: left.out_of_steps,
+    })
+}
+
+/// What is told of measures of which none is proved.
+fn told_trials(alloc: Global, bank: &Bank, left: &[Left]) -> Result<Vec<Trial>, AllocError>
+    requires left { All (LeftStands bank.now) left.now }
+    ensures { IfOk result (λ v. trials_of v.items ≡ trials_at bank.now left.now) }
+{
+    let mut trials = Vec::new(alloc);
+    for one in left {
+        let trial = told_trial(alloc, bank, one)?;
+        trials.push(trial)?;
+    }
+    Ok(trials)
+}
+
+/// The try that made this work: the block of the definition, where a measure was found, or else what is told of those that were
+/// tried.
 fn recursion_by(
     alloc: Global,
     work: Work,
     history: &History,
     recursion: Recursion<'_>,
-    found: Option<Admitting>,
+    measured: Sought,
     logging: bool,
 ) -> Result<TriedRecursion, AllocError>
     requires legal { LogGrows work.bank history.now [] work.log }
     requires over { RulesAreOver IsVariable work.bank history.now 0 work.log }
     requires symbols { HasSymbols (events_at work.bank history.now) }
     requires names { FunctionNames work.bank recursion.name recursion.formals.now recursion.body }
-    requires measure { IfSome found (λ a. Stands work.bank a.measure) }
-    requires closes { IfSome found (λ a. CanRecur (events_at work.bank history.now) (clause_at work.bank work.log) (text_at work.bank recursion.name) (texts_at work.bank recursion.formals.now)
+    requires measure { IfSome measured.found (λ a. Stands work.bank a.measure) }
+    requires left { IfNone measured.found (All (LeftStands work.bank) measured.left.items) }
+    requires closes { IfSome measured.found (λ a. CanRecur (events_at work.bank history.now) (clause_at work.bank work.log) (text_at work.bank recursion.name) (texts_at work.bank recursion.formals.now)
         (term_at work.bank recursion.body) (term_at work.bank a.measure) a.ordinal a.falls.items) }
     ensures bank { IfOk result (λ r. r.bank ≡ work.bank) }
-    ensures kept { IfOk result (λ r. r.kept ≡ option_map kept_of found) }
+    ensures kept { IfOk result (λ r. r.kept ≡ option_map kept_of measured.found) }
+    ensures trials { IfOk result (λ r. IfNone measured.found (trials_of r.trials.items ≡ trials_at work.bank measured.left.items)) }
     ensures written { IfOk result (λ r. logging ≡ true → AreBlocks (events_at work.bank history.now)
-        (kept_claims work.bank recursion.entry.name recursion.entry.formals.now recursion.entry.body (option_map kept_of found)) r.block) }
+        (kept_claims work.bank recursion.entry.name recursion.entry.formals.now recursion.entry.body (option_map kept_of measured.found)) r.block) }
 {
+    let Sought { found, left } = measured;
     match found {
-        None => Ok(TriedRecursion {
-            bank: work.bank,
-            kept: None,
-            block: Text::new(alloc),
-        }),
+        None => {
+            let trials = told_trials(alloc, &work.bank, left.as_slice())?;
+            Ok(TriedRecursion {
+                bank: work.bank,
+                kept: None,
+                trials,
+                block: Text::new(alloc),
+            })
+        }
         Some(admitting) => {
             let Admitting {
                 place,
@@ -130,6 +171,7 @@ fn recursion_by(
             Ok(TriedRecursion {
                 bank: work.bank,
                 kept: Some(Kept { place, measure }),
+                trials: Vec::new(alloc),
                 block,
             })
         }
@@ -141,13 +183,20 @@ fn returned(sought: TriedRecursion, mark: Mark) -> TriedRecursion
     requires { CanRelease sought.bank mark }
     ensures bank { result.bank ≡ released sought.bank mark }
     ensures kept { result.kept ≡ sought.kept }
+    ensures trials { result.trials ≡ sought.trials }
     ensures block { result.block ≡ sought.block }
 {
     let TriedRecursion {
         mut bank,
         kept,
+        trials,
         block,
     } = sought;
     bank.release(mark);
-    TriedRecursion { bank, kept, block }
+    TriedRecursion {
+        bank,
+        kept,
+        trials,
+        block,
+    }
 }

@@ -3,8 +3,8 @@ use Rattle.std.proofs.Common.{◌≡◌, ◌<◌, ◌∙◌, ℕ, List, [], ◌�
 use Rattle.std.specs.Prelude.{All, Option, Some, None, IfSome}
 use Rattle.nq_logic.specs.Terms.{Term, Variable}
 use Rattle.nq_logic.specs.Words.{call1}
+use Rattle.nq_bank.specs.declared.node.Sym.{Sym}
 use Rattle.nq_bank.specs.declared.node.TermId.{TermId}
-use Rattle.nq_bank.specs.Content.{term_at}
 use Rattle.nq_bank.proofs.Growth.{IsNamed-grown, text_at-grown}
 use Rattle.nq_bank.proofs.Standing.{All-push}
 use Rattle.nq_rule.specs.declared.induction.InductionStep.{InductionStep}
@@ -19,9 +19,11 @@ use Rattle.nq_induct.specs.declared.scheme.Case.{Case}
 use Rattle.nq_induct.specs.Schemes.{IsStepIn, IsCaseIn}
 use Rattle.nq_induct.proofs.GrownLemmas.{step_grown, case_grown, shown_truth_grown}
 use Rattle.nq_schemes.specs.declared.opened.Opened.{Opened}
+use Rattle.nq_schemes.specs.declared.basis.SizedVariable.{SizedVariable}
 use Rattle.nq_schemes.specs.declared.basis.Basis.{Basis}
-use Rattle.nq_schemes.specs.Known.{IsOpenedIn, with_some}
-use Rattle.nq_schemes.specs.Steps.{IsBasisIn, IsStartIn}
+use Rattle.nq_schemes.specs.Known.{IsNameOf, IsOpenedIn, with_some}
+use Rattle.nq_schemes.specs.Steps.{IsBasisIn, IsOrdinalIn, IsSizedIn, IsStartIn}
+use Rattle.nq_lines.specs.declared.facts.Fact.{Fact}
 
 -- what holds of each of a list holds with one more of which it holds
 pub all_with : {X : Type 0} (P : X → Type 0) (xs ys : List X) (found : Option X) → ys ≡ with_some xs found → All P xs → IfSome found P → All P ys
@@ -35,15 +37,33 @@ module _ (history : List Entry) (old new : Work) (stands : WorkStands history ol
   pub terms_grown : (ts : List TermId) → All (IsTermIn history old) ts → All (IsTermIn history new) ts
   terms_grown ts h = λ k d below. term_grown history old new (get_or ts k d) stands grows (h k d below)
 
+  pub name_grown : (t : TermId) (x : Sym) → IsNameOf history old t x → IsNameOf history new t x
+  name_grown t x h =
+      record {
+        term = term_grown history old new t stands grows h.term;
+        named = IsNamed-grown old.bank new.bank x grows.bank h.named;
+        names = same_term_grown history old new t grows h.term ∙ h.names ∙ ap Variable (sym (text_at-grown old.bank new.bank x grows.bank h.named));
+      }
+
+  pub sized_grown : (v : Option SizedVariable) → IfSome v (IsSizedIn history old) → IfSome v (IsSizedIn history new)
+  sized_grown None h = tt
+  sized_grown (Some v) h = name_grown v.variable v.name h
+
+  pub ordinal_grown : (f : Fact) → IsOrdinalIn history old f → IsOrdinalIn history new f
+  ordinal_grown f h =
+      record {
+        term = term_grown history old new f.term stands grows h.term;
+        line = subst (λ (t : Term). LineHasOnly new f.line (call1 "ORDINALP" t ∷ [])) (sym (same_term_grown history old new f.term grows h.term)) (only_grown history old new f.line _ stands grows h.line);
+      }
+
   pub basis_grown : (b : Basis) → IsBasisIn history old b → IsBasisIn history new b
   basis_grown b h =
+      let kept : IsOrdinalIn history new (record { term = b.measure; line = b.ordinal }) = ordinal_grown (record { term = b.measure; line = b.ordinal }) (record { term = h.measure; line = h.ordinal }) in
       record {
         opened = opened_grown b.opened.items h.opened;
-        variable = term_grown history old new b.variable stands grows h.variable;
-        named = IsNamed-grown old.bank new.bank b.name grows.bank h.named;
-        names = same_term_grown history old new b.variable grows h.variable ∙ h.names ∙ ap Variable (sym (text_at-grown old.bank new.bank b.name grows.bank h.named));
-        measure = term_grown history old new b.measure stands grows h.measure;
-        ordinal = subst (λ (t : Term). LineHasOnly new b.ordinal (call1 "ORDINALP" t ∷ [])) (sym (same_term_grown history old new b.measure grows h.measure)) (only_grown history old new b.ordinal _ stands grows h.ordinal);
+        sized = sized_grown b.sized h.sized;
+        measure = kept.term;
+        ordinal = kept.line;
         shown = shown_truth_grown history old new stands grows b.shown h.shown;
       }
 

@@ -1,5 +1,5 @@
 -- Parts of terms, and pairs of variables and terms, over the history.
-use Rattle.std.proofs.Common.{◌≡◌, ◌<◌, ◌∙◌, ℕ, zero, suc, true, Option, Some, None, List, [], ◌∷◌, length, get_or, sym, ap, subst, refl, arith}
+use Rattle.std.proofs.Common.{◌≡◌, ◌<◌, ◌∙◌, ℕ, zero, suc, Option, Some, None, List, [], ◌∷◌, length, get_or, sym, ap, subst, refl, arith}
 use Rattle.std.specs.Prelude.{All, IfSome, IsTrue, slice_get}
 use Rattle.std.specs.Option.{option_map}
 use Rattle.std.proofs.lemmas.Option.{slice_get-map, slice_get-get_or, get_or_from_slice_get, slice_get_within}
@@ -16,7 +16,6 @@ use Rattle.nq_proof.specs.Rules.{is_substitution, pair_terms}
 use Rattle.nq_history.specs.declared.entry.Entry.{Entry}
 use Rattle.nq_history.specs.Events.{events_at}
 use Rattle.nq_kernel.specs.declared.work.Work.{Work}
-use Rattle.nq_kernel.specs.Hints.{PairIsIn}
 use Rattle.nq_kernel.specs.Over.{IsVariable, IsTermOf, pair_names}
 use Rattle.nq_lines.specs.Lines.{IsTermIn}
 use Rattle.nq_lines.specs.Instances.{ArePairsIn}

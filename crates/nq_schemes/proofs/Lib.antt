@@ -2,3 +2,4 @@ mod KnownLemmas
 mod GrownLemmas
 mod MadeLemmas
 mod SizeLemmas
+mod OrdinalLemmas

@@ -1,6 +1,6 @@
 -- Terms that are made, over the history.
-use Rattle.std.proofs.Common.{◌≡◌, ◌∙◌, ℕ, true, List, [], ◌∷◌, Some, None, sym, ap, subst, inl, inr}
-use Rattle.std.specs.Prelude.{All, Option, IfSome, MatchOption}
+use Rattle.std.proofs.Common.{◌≡◌, ℕ, true, List, [], ◌∷◌, Some, None, sym, ap, subst, inl, inr}
+use Rattle.std.specs.Prelude.{Option, IfSome, MatchOption}
 use Rattle.std.specs.Option.{option_map}
 use Rattle.nq_logic.specs.Terms.{Term, Variable, Each, IsAmong}
 use Rattle.nq_logic.specs.Words.{call1, call2}
@@ -41,6 +41,10 @@ module _ (history : List Entry) (work : Work) where
 pub part_stands : (work : Work) (P : Type 0) (tests : List Term) (x t : Term) (found : Option ℕ) → MatchOption found P (IsDecreaseLine [] work tests x t) → IfSome found (LineStands work)
 part_stands work P tests x t None h = tt
 part_stands work P tests x t (Some n) h = only_stands work n _ h.line
+
+pub found_stands : (work : Work) (these : List Term) (found : Option ℕ) → IfSome found (λ n. LineHasOnly work n these) → IfSome found (LineStands work)
+found_stands work these None h = tt
+found_stands work these (Some n) h = only_stands work n these h
 
 pub leads_stands : (work : Work) (n : ℕ) (t : Term) (these : Clause) → LineLeads work n t these → LineStands work n
 leads_stands work n t these h = only_stands work n _ (leads_only work n t these h)

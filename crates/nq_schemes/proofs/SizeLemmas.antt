@@ -7,10 +7,8 @@ use Rattle.nq_bank.specs.declared.node.TermId.{TermId}
 use Rattle.nq_bank.specs.Content.{IsIdOf, term_at}
 use Rattle.nq_history.specs.declared.entry.Entry.{Entry}
 use Rattle.nq_kernel.specs.declared.work.Work.{Work}
-use Rattle.nq_kernel.specs.Growing.{WorkStands, WorkGrows}
-use Rattle.nq_kernel.proofs.GrowingLemmas.{WorkGrows-trans}
+use Rattle.nq_kernel.specs.Growing.{WorkGrows}
 use Rattle.nq_lines.specs.Lines.{IsTermIn, LineHasOnly}
-use Rattle.nq_lines.proofs.LineLemmas.{only_grown}
 use Rattle.nq_lines.proofs.TermLemmas.{same_term_grown}
 use Rattle.nq_decrease.specs.LawLines.{term_room}
 use Rattle.nq_decrease.proofs.NestLines.{variable_room}
@@ -19,9 +17,9 @@ pub variable_shallow : (work : Work) (t : TermId) (x : Name) → term_at work.ba
 variable_shallow work t x is = subst (λ (u : Term). depth_of u ≤ term_room) (sym is) (variable_room x)
 
 -- the line was made of the variable, and speaks of the measure
-pub ordinal_kept : (history : List Entry) (w0 w1 w2 w3 : Work) (v m : TermId) (n : ℕ) → WorkStands history w0 → WorkGrows history w0 w1 → WorkGrows history w1 w2 → WorkGrows history w2 w3 → IsTermIn history w0 v → IsTermIn history w1 m →
-    IsIdOf w1.bank m (call1 "COUNT" (term_at w0.bank v)) → LineHasOnly w2 n (call1 "ORDINALP" (call1 "COUNT" (term_at w1.bank v)) ∷ []) → LineHasOnly w3 n (call1 "ORDINALP" (term_at w3.bank m) ∷ [])
-ordinal_kept history w0 w1 w2 w3 v m n stands g1 g2 g3 vin min is line =
-    let same : term_at w3.bank m ≡ call1 "COUNT" (term_at w1.bank v) =
-    same_term_grown history w1 w3 m (WorkGrows-trans history w1 w2 w3 g2 g3) min ∙ is.denotes ∙ ap (λ (t : Term). call1 "COUNT" t) (sym (same_term_grown history w0 w1 v g1 vin)) in
-    subst (λ (t : Term). LineHasOnly w3 n (call1 "ORDINALP" t ∷ [])) (sym same) (only_grown history w2 w3 n _ g2.stands g3 line)
+pub ordinal_kept : (history : List Entry) (w0 w1 w2 : Work) (v m : TermId) (n : ℕ) → WorkGrows history w0 w1 → WorkGrows history w1 w2 → IsTermIn history w0 v → IsTermIn history w1 m →
+    IsIdOf w1.bank m (call1 "COUNT" (term_at w0.bank v)) → LineHasOnly w2 n (call1 "ORDINALP" (call1 "COUNT" (term_at w1.bank v)) ∷ []) → LineHasOnly w2 n (call1 "ORDINALP" (term_at w2.bank m) ∷ [])
+ordinal_kept history w0 w1 w2 v m n g1 g2 vin min is line =
+    let same : term_at w2.bank m ≡ call1 "COUNT" (term_at w1.bank v) =
+    same_term_grown history w1 w2 m g2 min ∙ is.denotes ∙ ap (λ (t : Term). call1 "COUNT" t) (sym (same_term_grown history w0 w1 v g1 vin)) in
+    subst (λ (t : Term). LineHasOnly w2 n (call1 "ORDINALP" t ∷ [])) (sym same) line

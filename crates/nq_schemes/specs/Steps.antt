@@ -1,8 +1,7 @@
 -- What the lines of a scheme stand on, and steps before their lines are finished.
-use Rattle.std.specs.Prelude.{◌≡◌, [], ◌∷◌, List, All}
-use Rattle.nq_logic.specs.Terms.{Variable}
+use Rattle.std.specs.Prelude.{[], ◌∷◌, List, All, IfSome}
 use Rattle.nq_logic.specs.Words.{call1}
-use Rattle.nq_bank.specs.Content.{IsNamed, text_at, term_at}
+use Rattle.nq_bank.specs.Content.{term_at}
 use Rattle.nq_rule.specs.declared.induction.InductionStep.{InductionStep}
 use Rattle.nq_history.specs.declared.entry.Entry.{Entry}
 use Rattle.nq_kernel.specs.declared.work.Work.{Work}
@@ -11,15 +10,23 @@ use Rattle.nq_lines.specs.Lines.{IsTermIn, LineHasOnly}
 use Rattle.nq_lines.specs.Instances.{ArePairsIn}
 use Rattle.nq_lines.specs.declared.facts.Fact.{Fact}
 use Rattle.nq_induct.specs.Claims.{IsShownTruth}
-use Rattle.nq_schemes.specs.Known.{IsOpenedIn}
+use Rattle.nq_schemes.specs.Known.{IsNameOf, IsOpenedIn}
+use Rattle.nq_schemes.specs.declared.basis.SizedVariable.{SizedVariable}
 use Rattle.nq_schemes.specs.declared.basis.Basis.{Basis}
 
--- the calls are over the history, and the measure is the size of the variable, which a line shows to be an ordinal
+-- the variable of this name, over the history
+abbrev pub IsSizedIn : List Entry → Work → SizedVariable → Type 0
+IsSizedIn history work v = IsNameOf history work v.variable v.name
+
+-- the line has only that the term, which is over the history, is an ordinal
+pub record IsOrdinalIn (history : List Entry) (work : Work) (f : Fact) : Type 0 where
+  pub term : IsTermIn history work f.term
+  pub line : LineHasOnly work f.line (call1 "ORDINALP" (term_at work.bank f.term) ∷ [])
+
+-- the calls and the variable are over the history, and a line shows that the measure is an ordinal
 pub record IsBasisIn (history : List Entry) (work : Work) (b : Basis) : Type 0 where
   pub opened : All (IsOpenedIn history work) b.opened.items
-  pub variable : IsTermIn history work b.variable
-  pub named : IsNamed work.bank b.name
-  pub names : term_at work.bank b.variable ≡ Variable (text_at work.bank b.name)
+  pub sized : IfSome b.sized (IsSizedIn history work)
   pub measure : IsTermIn history work b.measure
   pub ordinal : LineHasOnly work b.ordinal (call1 "ORDINALP" (term_at work.bank b.measure) ∷ [])
   pub shown : IsShownTruth history work b.shown

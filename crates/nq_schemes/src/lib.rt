@@ -34,11 +34,22 @@ mod subsuming;
 // terms that are known to be over the history
 mod known;
 mod openings;
+mod own;
+mod spelling;
+
+// what falls, and ordinals
+mod falling;
+mod instances;
+mod ordinals;
+mod sizes;
+mod tables;
 
 // the lines of a scheme
+mod bases;
 mod basis;
 mod gathering;
-mod sizes;
+mod plain;
+mod showing;
 mod starting;
 
 // the schemes of a goal

@@ -5,73 +5,23 @@ ghost use Rattle.nq_kernel.specs.Growing.{WorkStands, WorkGrows};
 ghost use Rattle.nq_kernel.specs.Ready.{IsReady};
 ghost use Rattle.nq_lines.specs.Lines.{IsTermIn};
 ghost use Rattle.nq_induct.specs.Schemes.{IsCaseIn, IsSchemeIn};
-ghost use Rattle.nq_schemes.specs.Known.{IsNameOf, IsOpenedIn, with_some};
+ghost use Rattle.nq_schemes.specs.Known.{IsOpenedIn, with_some};
 ghost use Rattle.nq_schemes.specs.Steps.{IsBasisIn};
 
+use crate::bases::basis_of;
 use crate::basis::Basis;
 use crate::choosing::choose;
 use crate::draft::{Draft, DraftCase};
 use crate::drafting::drafts_of;
+use crate::falling::{Falling, falling_of};
 use crate::gathering::case_of;
-use crate::known::known_name;
 use crate::opened::Opened;
 use crate::openings::all_opened;
-use crate::sizes::{ordinal_line, size_of};
-use crate::suggestion::{sized_argument, suggestions};
-use nq_bank::{Sym, TermId};
+use crate::suggestion::suggestions;
+use nq_bank::TermId;
 use nq_history::History;
-use nq_induct::{Case, Scheme, known_truth};
+use nq_induct::{Case, Scheme};
 use nq_kernel::{Stop, Work};
-
-/// What the lines of a scheme stand on where the size of this variable falls.
-fn basis_by(
-    work: &mut Work,
-    history: &History,
-    opened: Vec<Opened>,
-    variable: TermId,
-    name: Sym,
-) -> Result<Basis, Stop>
-    requires stands { WorkStands history.now work.old }
-    requires opened { All (IsOpenedIn history.now work.old) opened.items }
-    requires name { IsNameOf history.now work.old variable name }
-    ensures basis { IfOk result (IsBasisIn history.now work.new) }
-    ensures grows { WorkGrows history.now work.old work.new }
-    ensures out { result ≡ Err Stop.OutOfSteps → work.new.counter.used ≡ work.new.counter.limit }
-{
-    let measure = size_of(work, history, variable)?;
-    let ordinal = ordinal_line(work, history, variable)?;
-    let shown = known_truth(work, history)?;
-    Ok(Basis {
-        opened,
-        variable,
-        name,
-        measure,
-        ordinal,
-        shown,
-    })
-}
-
-/// The same, where the variable is known.
-fn basis_of(
-    work: &mut Work,
-    history: &History,
-    opened: Vec<Opened>,
-    variable: TermId,
-) -> Result<Option<Basis>, Stop>
-    requires stands { WorkStands history.now work.old }
-    requires opened { All (IsOpenedIn history.now work.old) opened.items }
-    ensures basis { IfOk result (λ found. IfSome found (IsBasisIn history.now work.new)) }
-    ensures grows { WorkGrows history.now work.old work.new }
-    ensures out { result ≡ Err Stop.OutOfSteps → work.new.counter.used ≡ work.new.counter.limit }
-{
-    match known_name(work, history, opened.as_slice(), variable) {
-        Some(name) => {
-            let basis = basis_by(work, history, opened, variable, name)?;
-            Ok(Some(basis))
-        }
-        None => Ok(None),
-    }
-}
 
 /// One case more, if there is one.
 fn add_case(cases: &mut Vec<Case>, found: Option<Case>) -> Result<(), Stop>
@@ -132,23 +82,24 @@ fn scheme_by(
     }))
 }
 
-/// The variable whose size falls in a draft.
-fn variable_of(work: &Work, history: &History, draft: &Draft) -> Result<Option<TermId>, Stop>
+/// What falls in a draft.
+fn falling_in(work: &Work, history: &History, draft: &Draft) -> Result<Option<Falling>, Stop>
     ensures memory { result ≡ Err Stop.OutOfSteps → ⊥ }
 {
-    match sized_argument(&work.bank, history, draft.calls.as_slice()) {
+    match falling_of(&work.bank, history, draft.calls.as_slice()) {
         Ok(found) => Ok(found),
         Err(_) => Err(Stop::Memory),
     }
 }
 
-/// The scheme of a draft in which the size of this variable falls.
+/// The scheme of a draft in which this falls.
 fn scheme_falling(
     work: &mut Work,
     history: &History,
     opened: Vec<Opened>,
     draft: &Draft,
-    variable: TermId,
+    falling: &Falling,
+    arithmetic: bool,
 ) -> Result<Option<Scheme>, Stop>
     requires stands { WorkStands history.now work.old }
     requires opened { All (IsOpenedIn history.now work.old) opened.items }
@@ -156,7 +107,7 @@ fn scheme_falling(
     ensures grows { WorkGrows history.now work.old work.new }
     ensures out { result ≡ Err Stop.OutOfSteps → work.new.counter.used ≡ work.new.counter.limit }
 {
-    match basis_of(work, history, opened, variable)? {
+    match basis_of(work, history, opened, falling, arithmetic)? {
         Some(basis) => scheme_by(work, history, &basis, draft),
         None => Ok(None),
     }
@@ -168,6 +119,7 @@ fn scheme_at(
     history: &History,
     opened: Vec<Opened>,
     draft: &Draft,
+    arithmetic: bool,
 ) -> Result<Option<Scheme>, Stop>
     requires stands { WorkStands history.now work.old }
     requires opened { All (IsOpenedIn history.now work.old) opened.items }
@@ -175,9 +127,9 @@ fn scheme_at(
     ensures grows { WorkGrows history.now work.old work.new }
     ensures out { result ≡ Err Stop.OutOfSteps → work.new.counter.used ≡ work.new.counter.limit }
 {
-    let found = variable_of(work, history, draft)?;
+    let found = falling_in(work, history, draft)?;
     match found {
-        Some(variable) => scheme_falling(work, history, opened, draft, variable),
+        Some(falling) => scheme_falling(work, history, opened, draft, &falling, arithmetic),
         None => Ok(None),
     }
 }
@@ -217,6 +169,7 @@ fn scheme_of_place(
     opened: Vec<Opened>,
     drafts: &[Draft],
     place: Option<usize>,
+    arithmetic: bool,
 ) -> Result<Option<Scheme>, Stop>
     requires stands { WorkStands history.now work.old }
     requires opened { All (IsOpenedIn history.now work.old) opened.items }
@@ -225,7 +178,7 @@ fn scheme_of_place(
     ensures out { result ≡ Err Stop.OutOfSteps → work.new.counter.used ≡ work.new.counter.limit }
 {
     match draft_at(drafts, place) {
-        Some(draft) => scheme_at(work, history, opened, draft),
+        Some(draft) => scheme_at(work, history, opened, draft, arithmetic),
         None => Ok(None),
     }
 }
@@ -237,6 +190,7 @@ fn scheme_of_calls(
     goal: &[TermId],
     calls: &[TermId],
     turn: u32,
+    arithmetic: bool,
 ) -> Result<Option<Scheme>, Stop>
     requires stands { WorkStands history.now work.old }
     requires ready { IsReady (events_at work.old.bank history.now) }
@@ -248,7 +202,7 @@ fn scheme_of_calls(
     let opened = all_opened(work, history, goal, calls)?;
     let mut drafts = drafts_at(work, history, opened.as_slice())?;
     let place = chosen(work, &mut drafts, turn)?;
-    scheme_of_place(work, history, opened, drafts.as_slice(), place)
+    scheme_of_place(work, history, opened, drafts.as_slice(), place, arithmetic)
 }
 
 /// The calls of a goal that suggest a scheme.
@@ -267,6 +221,7 @@ fn scheme_of_hint(
     history: &History,
     t: TermId,
     turn: u32,
+    arithmetic: bool,
 ) -> Result<Option<Scheme>, Stop>
     requires stands { WorkStands history.now work.old }
     requires ready { IsReady (events_at work.old.bank history.now) }
@@ -276,7 +231,7 @@ fn scheme_of_hint(
     ensures out { result ≡ Err Stop.OutOfSteps → work.new.counter.used ≡ work.new.counter.limit }
 {
     let calls = [t];
-    scheme_of_calls(work, history, &calls, &calls, turn)
+    scheme_of_calls(work, history, &calls, &calls, turn, arithmetic)
 }
 
 /// The scheme of this number among those that calls of the goal suggest.
@@ -285,6 +240,7 @@ fn scheme_of_goal(
     history: &History,
     goal: &[TermId],
     turn: u32,
+    arithmetic: bool,
 ) -> Result<Option<Scheme>, Stop>
     requires stands { WorkStands history.now work.old }
     requires ready { IsReady (events_at work.old.bank history.now) }
@@ -294,17 +250,18 @@ fn scheme_of_goal(
     ensures out { result ≡ Err Stop.OutOfSteps → work.new.counter.used ≡ work.new.counter.limit }
 {
     let calls = calls_of(work, history, goal)?;
-    scheme_of_calls(work, history, goal, calls.as_slice(), turn)
+    scheme_of_calls(work, history, goal, calls.as_slice(), turn, arithmetic)
 }
 
 /// The scheme of this number, the best being that of number 0, among those that calls of the goal suggest, or that the term of a hint
-/// suggests. There is none where there are no more.
+/// suggests. There is none where there are no more. That the measure falls may be shown by linear arithmetic, where that is wanted.
 pub fn scheme_of(
     work: &mut Work,
     history: &History,
     goal: &[TermId],
     hint: Option<TermId>,
     turn: u32,
+    arithmetic: bool,
 ) -> Result<Option<Scheme>, Stop>
     requires stands { WorkStands history.now work.old }
     requires ready { IsReady (events_at work.old.bank history.now) }
@@ -315,7 +272,7 @@ pub fn scheme_of(
     ensures out { result ≡ Err Stop.OutOfSteps → work.new.counter.used ≡ work.new.counter.limit }
 {
     match hint {
-        Some(t) => scheme_of_hint(work, history, t, turn),
-        None => scheme_of_goal(work, history, goal, turn),
+        Some(t) => scheme_of_hint(work, history, t, turn, arithmetic),
+        None => scheme_of_goal(work, history, goal, turn, arithmetic),
     }
 }

@@ -6,9 +6,9 @@ ghost use Rattle.nq_bank.specs.Content.{IsIdOf, term_at};
 ghost use Rattle.nq_kernel.specs.Growing.{WorkStands, WorkGrows, LineStands};
 ghost use Rattle.nq_lines.specs.Lines.{IsTermIn, LineHasOnly};
 ghost use Rattle.nq_decrease.specs.LawLines.{term_room};
-ghost use Rattle.nq_schemes.specs.Steps.{IsBasisIn};
+ghost use Rattle.nq_schemes.specs.Steps.{IsSizedIn};
 
-use crate::basis::Basis;
+use crate::basis::SizedVariable;
 use nq_bank::{TermId, ground, ground_name};
 use nq_decrease::{decrease, size_is_ordinal};
 use nq_history::History;
@@ -45,16 +45,16 @@ pub fn ordinal_line(work: &mut Work, history: &History, t: TermId) -> Result<u64
     }
 }
 
-/// The line that a part of the variable is smaller, where the tests say so.
+/// The line that a part of a variable is smaller, where the tests say so.
 pub fn part_line(
     work: &mut Work,
     history: &History,
-    basis: &Basis,
+    whole: SizedVariable,
     part: TermId,
     tests: &[TermId],
 ) -> Result<Option<u64>, Stop>
     requires stands { WorkStands history.now work.old }
-    requires basis { IsBasisIn history.now work.old basis.now }
+    requires whole { IsSizedIn history.now work.old whole }
     requires part { IsTermIn history.now work.old part }
     requires tests { All (IsTermIn history.now work.old) tests.now }
     ensures line { IfOk result (λ found. IfSome found (LineStands work.new)) }
@@ -64,7 +64,7 @@ pub fn part_line(
     if work.bank.depth(part) > PART_DEPTH {
         return Ok(None);
     }
-    match decrease(work, history, basis.name, part, tests) {
+    match decrease(work, history, whole.name, part, tests) {
         Ok(found) => Ok(found),
         Err(_) => Err(Stop::Memory),
     }

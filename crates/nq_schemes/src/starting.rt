@@ -1,5 +1,4 @@
-//! The lines of steps before they are gathered: a part of the variable is smaller under the tests, or that the measure falls becomes
-//! a test itself.
+//! The lines of steps before they are gathered: that the measure falls is shown under the tests, or becomes a test itself.
 ghost use Rattle.std.specs.Prelude.{◌≡◌, ◌++◌, ◌∷◌, [], All, IfOk, IfSome, OnOk, Err};
 ghost use Rattle.nq_logic.specs.Words.{call2};
 ghost use Rattle.nq_bank.specs.Content.{IsIdOf, term_at};
@@ -9,9 +8,11 @@ ghost use Rattle.nq_lines.specs.Instances.{ArePairsIn};
 ghost use Rattle.nq_schemes.specs.Steps.{IsBasisIn, IsStartIn, IsDeniedIn};
 
 use crate::basis::Basis;
-use crate::draft::Step;
+use crate::draft::{Change, Step};
+use crate::instances::instance_of;
 use crate::known::{is_known, pairs_of};
-use crate::sizes::{part_line, size_of};
+use crate::showing::shown_line;
+use crate::sizes::part_line;
 use crate::steps::becomes;
 use nq_bank::{TermId, ground, ground_name};
 use nq_clause::Pair;
@@ -19,6 +20,7 @@ use nq_history::History;
 use nq_kernel::{Stop, Work};
 use nq_lines::{Fact, deny, opposites};
 use nq_rule::InductionStep;
+use std::alloc::Global;
 
 /// Makes that one measure is below another.
 fn below(work: &mut Work, history: &History, t: TermId, u: TermId) -> Result<TermId, Stop>
@@ -34,24 +36,34 @@ fn below(work: &mut Work, history: &History, t: TermId, u: TermId) -> Result<Ter
     work.app(history, name, &[t, u])
 }
 
-/// That the measure does not fall where the variable becomes a term, and the line of this and its denial.
-fn fall_tested(
+/// Makes that the measure falls where the pairs take it.
+fn falls_at(
     work: &mut Work,
     history: &History,
     basis: &Basis,
-    part: TermId,
-) -> Result<Fact, Stop>
+    pairs: &[Pair],
+) -> Result<TermId, Stop>
     requires stands { WorkStands history.now work.old }
     requires basis { IsBasisIn history.now work.old basis.now }
-    requires part { IsTermIn history.now work.old part }
+    requires pairs { ArePairsIn history.now work.old pairs.now }
+    ensures over { IfOk result (λ s. IsTermIn history.now work.new s) }
+    ensures grows { WorkGrows history.now work.old work.new }
+    ensures out { result ≡ Err Stop.OutOfSteps → work.new.counter.used ≡ work.new.counter.limit }
+{
+    let smaller = instance_of(work, history, basis.measure, pairs)?;
+    below(work, history, smaller, basis.measure)
+}
+
+/// The denial of a term, and the line of the term and its denial.
+fn denial_of(work: &mut Work, history: &History, t: TermId) -> Result<Fact, Stop>
+    requires stands { WorkStands history.now work.old }
+    requires term { IsTermIn history.now work.old t }
     ensures denied { IfOk result (IsDeniedIn history.now work.new) }
     ensures grows { WorkGrows history.now work.old work.new }
     ensures out { result ≡ Err Stop.OutOfSteps → work.new.counter.used ≡ work.new.counter.limit }
 {
-    let smaller = size_of(work, history, part)?;
-    let falls = below(work, history, smaller, basis.measure)?;
-    let term = deny(work, history, falls)?;
-    let line = opposites(work, history, falls)?;
+    let term = deny(work, history, t)?;
+    let line = opposites(work, history, t)?;
     Ok(Fact { term, line })
 }
 
@@ -66,80 +78,151 @@ pub fn add_literal(literals: &mut Vec<TermId>, literal: TermId) -> Result<(), St
     }
 }
 
-/// The line of a step where the variable becomes a term, with that the measure does not fall there among the literals.
-fn fall_line(
+/// Literals, and one more.
+fn with_literal(alloc: Global, literals: &[TermId], more: TermId) -> Result<Vec<TermId>, Stop>
+    ensures all { IfOk result (λ v. v.items ≡ literals.now ++ more ∷ []) }
+    ensures memory { result ≡ Err Stop.OutOfSteps → ⊥ }
+{
+    match Vec::from_slice(alloc, literals) {
+        Ok(mut all) => {
+            add_literal(&mut all, more)?;
+            Ok(all)
+        }
+        Err(_) => Err(Stop::Memory),
+    }
+}
+
+/// The line of a step that the tests do not show at once; that the measure does not fall there is added to the literals where no
+/// other line is found.
+fn further_line(
     work: &mut Work,
     history: &History,
     basis: &Basis,
     literals: &mut Vec<TermId>,
-    part: TermId,
+    pairs: &[Pair],
 ) -> Result<u64, Stop>
     requires stands { WorkStands history.now work.old }
     requires basis { IsBasisIn history.now work.old basis.now }
     requires literals { All (IsTermIn history.now work.old) literals.old.items }
-    requires part { IsTermIn history.now work.old part }
+    requires pairs { ArePairsIn history.now work.old pairs.now }
     ensures line { IfOk result (λ n. LineStands work.new n) }
     ensures literals { OnOk result (All (IsTermIn history.now work.new) literals.new.items) }
     ensures grows { WorkGrows history.now work.old work.new }
     ensures out { result ≡ Err Stop.OutOfSteps → work.new.counter.used ≡ work.new.counter.limit }
 {
-    let fact = fall_tested(work, history, basis, part)?;
+    let falls = falls_at(work, history, basis, pairs)?;
+    let goal = with_literal(work.bank.alloc(), literals.as_slice(), falls)?;
+    let found = shown_line(work, history, basis.arithmetic, goal.as_slice())?;
+    match found {
+        Some(line) => Ok(line),
+        None => fall_line(work, history, literals, falls),
+    }
+}
+
+/// The line of a step where that the measure does not fall is among the literals.
+fn fall_line(
+    work: &mut Work,
+    history: &History,
+    literals: &mut Vec<TermId>,
+    falls: TermId,
+) -> Result<u64, Stop>
+    requires stands { WorkStands history.now work.old }
+    requires literals { All (IsTermIn history.now work.old) literals.old.items }
+    requires falls { IsTermIn history.now work.old falls }
+    ensures line { IfOk result (λ n. LineStands work.new n) }
+    ensures literals { OnOk result (All (IsTermIn history.now work.new) literals.new.items) }
+    ensures grows { WorkGrows history.now work.old work.new }
+    ensures out { result ≡ Err Stop.OutOfSteps → work.new.counter.used ≡ work.new.counter.limit }
+{
+    let fact = denial_of(work, history, falls)?;
     add_literal(literals, fact.term)?;
     Ok(fact.line)
 }
 
-/// The line of a step, where the variable becomes a term; that the measure does not fall there is added to the literals where the
-/// line is not known.
+/// The line that the part which a variable becomes is smaller, where the measure is the variable's size and the tests say so.
+fn nest_line(
+    work: &mut Work,
+    history: &History,
+    basis: &Basis,
+    tests: &[TermId],
+    changes: &[Change],
+) -> Result<Option<u64>, Stop>
+    requires stands { WorkStands history.now work.old }
+    requires basis { IsBasisIn history.now work.old basis.now }
+    requires tests { All (IsTermIn history.now work.old) tests.now }
+    ensures line { IfOk result (λ found. IfSome found (LineStands work.new)) }
+    ensures grows { WorkGrows history.now work.old work.new }
+    ensures memory { result ≡ Err Stop.OutOfSteps → ⊥ }
+{
+    match basis.sized {
+        Some(whole) => {
+            let part = becomes(changes, whole.variable);
+            if !is_known(work, history, basis.opened.as_slice(), part) {
+                return Ok(None);
+            }
+            part_line(work, history, whole, part, tests)
+        }
+        None => Ok(None),
+    }
+}
+
+/// The line of a step; that the measure does not fall there is added to the literals where no other line is found.
 fn start_line(
     work: &mut Work,
     history: &History,
     basis: &Basis,
     tests: &[TermId],
     literals: &mut Vec<TermId>,
-    part: TermId,
+    changes: &[Change],
+    pairs: &[Pair],
 ) -> Result<u64, Stop>
     requires stands { WorkStands history.now work.old }
     requires basis { IsBasisIn history.now work.old basis.now }
     requires tests { All (IsTermIn history.now work.old) tests.now }
     requires literals { All (IsTermIn history.now work.old) literals.old.items }
-    requires part { IsTermIn history.now work.old part }
+    requires pairs { ArePairsIn history.now work.old pairs.now }
     ensures line { IfOk result (λ n. LineStands work.new n) }
     ensures literals { OnOk result (All (IsTermIn history.now work.new) literals.new.items) }
     ensures grows { WorkGrows history.now work.old work.new }
     ensures out { result ≡ Err Stop.OutOfSteps → work.new.counter.used ≡ work.new.counter.limit }
 {
-    let found = part_line(work, history, basis, part, tests)?;
+    let found = nest_line(work, history, basis, tests, changes)?;
     match found {
         Some(line) => Ok(line),
-        None => fall_line(work, history, basis, literals, part),
+        None => further_line(work, history, basis, literals, pairs),
     }
 }
 
-/// A step with these pairs, and a line that is not gathered yet, where its terms are known.
+/// A step with these pairs, and a line that is not gathered yet.
 fn start_with(
     work: &mut Work,
     history: &History,
     basis: &Basis,
     tests: &[TermId],
     literals: &mut Vec<TermId>,
-    part: TermId,
+    changes: &[Change],
     pairs: Vec<Pair>,
-) -> Result<Option<InductionStep>, Stop>
+) -> Result<InductionStep, Stop>
     requires stands { WorkStands history.now work.old }
     requires basis { IsBasisIn history.now work.old basis.now }
     requires tests { All (IsTermIn history.now work.old) tests.now }
     requires literals { All (IsTermIn history.now work.old) literals.old.items }
     requires pairs { ArePairsIn history.now work.old pairs.items }
-    ensures start { IfOk result (λ found. IfSome found (IsStartIn history.now work.new)) }
+    ensures start { IfOk result (IsStartIn history.now work.new) }
     ensures literals { OnOk result (All (IsTermIn history.now work.new) literals.new.items) }
     ensures grows { WorkGrows history.now work.old work.new }
     ensures out { result ≡ Err Stop.OutOfSteps → work.new.counter.used ≡ work.new.counter.limit }
 {
-    if !is_known(work, history, basis.opened.as_slice(), part) {
-        return Ok(None);
-    }
-    let line = start_line(work, history, basis, tests, literals, part)?;
-    Ok(Some(InductionStep { line, pairs }))
+    let line = start_line(
+        work,
+        history,
+        basis,
+        tests,
+        literals,
+        changes,
+        pairs.as_slice(),
+    )?;
+    Ok(InductionStep { line, pairs })
 }
 
 /// A step with a line that is not gathered yet, where its terms are known.
@@ -161,10 +244,12 @@ pub fn start_of(
     ensures out { result ≡ Err Stop.OutOfSteps → work.new.counter.used ≡ work.new.counter.limit }
 {
     let changes = step.changes.as_slice();
-    let part = becomes(changes, basis.variable);
     let found = pairs_of(work, history, basis.opened.as_slice(), changes)?;
     match found {
-        Some(pairs) => start_with(work, history, basis, tests, literals, part, pairs),
+        Some(pairs) => {
+            let start = start_with(work, history, basis, tests, literals, changes, pairs)?;
+            Ok(Some(start))
+        }
         None => Ok(None),
     }
 }

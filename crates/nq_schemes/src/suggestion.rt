@@ -16,6 +16,10 @@ pub struct Recursion {
     pub function: Sym,
     /// Its body.
     pub body: TermId,
+    /// Its formals.
+    pub formals: Vec<Sym>,
+    /// Its measure.
+    pub measure: TermId,
     /// The places of the formals that its measure speaks of.
     pub measured: Vec<usize>,
     /// Whether the measure is the size of a formal.
@@ -77,9 +81,12 @@ pub fn recursion_of(
     match &entry.kind {
         EntryKind::Defn(formals, body, Some(measure)) => {
             let measured = measured_places(bank, formals.as_slice(), *measure)?;
+            let formals = Vec::from_slice(bank.alloc(), formals.as_slice())?;
             Ok(Some(Recursion {
                 function: f,
                 body: *body,
+                formals,
+                measure: *measure,
                 measured,
                 is_sized: is_size(bank, *measure),
             }))
@@ -125,7 +132,7 @@ fn is_suggestion_of(bank: &Bank, recursion: &Recursion, t: TermId) -> Result<boo
     requires { Stands bank.now t }
 {
     let measured = arguments_at(bank, recursion.measured.as_slice(), t)?;
-    Ok(recursion.is_sized && are_variables(bank, measured.as_slice()))
+    Ok(are_variables(bank, measured.as_slice()))
 }
 
 /// The recursive function of a call that suggests an induction.
@@ -149,33 +156,6 @@ pub fn suggestion_of(
         }
         None => Ok(None),
     }
-}
-
-/// The argument whose size falls, where the first of these calls suggests an induction.
-pub fn sized_argument(
-    bank: &Bank,
-    history: &History,
-    calls: &[TermId],
-) -> Result<Option<TermId>, AllocError> {
-    match calls.first() {
-        Some(call) => sized_argument_of(bank, history, *call),
-        None => Ok(None),
-    }
-}
-
-/// The argument of a call whose size falls.
-fn sized_argument_of(
-    bank: &Bank,
-    history: &History,
-    call: TermId,
-) -> Result<Option<TermId>, AllocError> {
-    if call.0 < bank.len() {
-        if let Some(recursion) = suggestion_of(bank, history, call)? {
-            let measured = arguments_at(bank, recursion.measured.as_slice(), call)?;
-            return Ok(measured.first().copied());
-        }
-    }
-    Ok(None)
 }
 
 /// Adds the calls in a term that suggest an induction, the inner ones first. Each shared term is looked at once.

@@ -76,6 +76,15 @@ pub fn is_call_of(bank: &Bank, f: Sym, t: TermId) -> bool
     }
 }
 
+/// The argument of a term at a place.
+pub fn argument_of(bank: &Bank, t: TermId, i: usize) -> Option<TermId> {
+    if t.0 < bank.len() {
+        bank.args(t).get(i).copied()
+    } else {
+        None
+    }
+}
+
 /// Does a call of a function stand in a term?
 pub fn mentions(bank: &Bank, f: Sym, t: TermId) -> bool
     requires { Stands bank.now t }

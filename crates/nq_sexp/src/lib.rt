@@ -37,6 +37,3 @@ pub enum Sexp<'a> {
     /// A list: its elements, and what stands behind a dot.
     List(&'a [Sexp<'a>], Option<&'a Sexp<'a>>),
 }
-
-#[cfg(test)]
-mod tests;

@@ -26,6 +26,3 @@ mod axioms;
 pub use admission::{ShellFault, admit_shell};
 pub use axioms::{Clause, shell_axiom};
 pub use table::put_row;
-
-#[cfg(test)]
-mod tests;

@@ -1,3 +1,4 @@
 mod LineLemmas
+mod ProverLemmas
 mod TacticLemmas
 mod WayLemmas

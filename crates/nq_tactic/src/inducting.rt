@@ -58,7 +58,7 @@ fn lead_suggested(
     if goal.is_empty() {
         return Ok(None);
     }
-    match scheme_of(work, history, goal, hint, turn)? {
+    match scheme_of(work, history, goal, hint, turn, !hints.no_arith)? {
         Some(scheme) => {
             let led = lead_by(work, history, goal, scheme, plan)?;
             Ok(Some(led))

@@ -1,4 +1,4 @@
-//! The prover's own tactic, and the search for the line of a lemma whose hints name instances.
+//! The prover: the first pass, and then a search by its own tactic for the line of a lemma, under the instances that its hints name.
 //!
 //! A goal is simplified, each literal under the negations of the others, and split on its IFs. What is left is refuted by linear
 //! arithmetic, led on by moves and simplified again, or led on by inductions. Each way keeps what makes a line of the goal from lines
@@ -36,6 +36,9 @@ mod eliminating;
 // lemmas
 mod lemmas;
 
-pub use lemmas::seek_lemma;
+// the first pass, and then the search
+mod prover;
+
+pub use prover::Searcher;
 pub use tactic::Waterfall;
 pub use way::{Induction, Way};

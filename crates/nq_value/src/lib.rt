@@ -36,6 +36,3 @@ mod calls;
 pub use calls::{has_value, value_of};
 pub use making::ValueAnswer;
 pub use table::apply;
-
-#[cfg(test)]
-mod tests;

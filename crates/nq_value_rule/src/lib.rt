@@ -58,6 +58,3 @@ pub fn value_clause(bank: &mut Bank, t: TermId) -> Result<Vec<TermId>, BankFault
     let literal = equation(bank, t, value)?;
     clause_of_one(bank, literal)
 }
-
-#[cfg(test)]
-mod tests;

@@ -23,8 +23,8 @@ mod words;
 use crate::sample::sample_status;
 use nq_check::{CheckFault, Checked, check};
 use nq_io::{Sink, SinkFault, Source};
-use nq_prover::Searcher;
 use nq_run::run_events;
+use nq_tactic::Searcher;
 use std::alloc::Global;
 pub use words::{Command, WordsFault, read_command};
 

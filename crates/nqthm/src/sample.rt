@@ -11,9 +11,9 @@ ghost use Rattle.nqthm.specs.Samples.{IsSampled, RanInMemory};
 use crate::{FAILED_WRITE, NO_MEMORY, WRONG_SPELLING};
 use nq_comment::{SyntaxFault, render_closing};
 use nq_io::{Sink, SinkFault, SureSink, SureSource};
-use nq_prover::Searcher;
 use nq_run::{Ended, run_events};
 use nq_sample::sample_text;
+use nq_tactic::Searcher;
 use std::alloc::Global;
 
 /// The steps that each event may take.

@@ -1,52 +1,17 @@
 //! The table of the law `fix_is_number`. It is printed.
 
 use nq_bank::ground;
+use nq_replay::words::{EQUAL, FIX, IF, NOT, NUMBERP, X, ZERO};
 use nq_replay::{Law, LawPair, LawRule};
 use nq_rule::Side;
-use nq_steps::{Leaf, Step};
-
-const X: Step = Step::Leaf(Leaf::Letter(b'X'));
 
 /// The law `fix_is_number`.
 pub const FIX_IS_NUMBER: Law = Law {
     names: &[b"X", b"Y", b"Z"],
     terms: &[
-        X,
-        Step::Call(ground::NUMBERP, 1),
-        X,
-        Step::Call(ground::ZERO, 0),
-        X,
-        Step::Call(ground::NUMBERP, 1),
-        Step::Call(ground::NOT, 1),
-        X,
-        Step::Call(ground::NUMBERP, 1),
-        X,
-        Step::Call(ground::ZERO, 0),
-        Step::Call(ground::IF, 3),
-        X,
-        Step::Call(ground::NUMBERP, 1),
-        X,
-        Step::Call(ground::ZERO, 0),
-        Step::Call(ground::IF, 3),
-        X,
-        Step::Call(ground::EQUAL, 2),
-        X,
-        Step::Call(ground::NUMBERP, 1),
-        X,
-        Step::Call(ground::ZERO, 0),
-        Step::Call(ground::IF, 3),
-        Step::Call(ground::ZERO, 0),
-        Step::Call(ground::EQUAL, 2),
-        X,
-        Step::Call(ground::FIX, 1),
-        X,
-        Step::Call(ground::FIX, 1),
-        X,
-        Step::Call(ground::NUMBERP, 1),
-        X,
-        Step::Call(ground::ZERO, 0),
-        Step::Call(ground::IF, 3),
-        Step::Call(ground::EQUAL, 2),
+        X, NUMBERP, X, ZERO, X, NUMBERP, NOT, X, NUMBERP, X, ZERO, IF, X, NUMBERP, X, ZERO, IF, X,
+        EQUAL, X, NUMBERP, X, ZERO, IF, ZERO, EQUAL, X, FIX, X, FIX, X, NUMBERP, X, ZERO, IF,
+        EQUAL,
     ],
     rules: &[
         LawRule::AxiomRow(ground::ADD1, 3, 0),

@@ -1,28 +1,15 @@
 //! The table of the law `no_first`. It is printed.
 
 use nq_bank::ground;
+use nq_replay::words::{CAR, COUNT, EQUAL, X, ZERO};
 use nq_replay::{Law, LawRule};
 use nq_rule::Side;
-use nq_steps::{Leaf, Step};
-
-const X: Step = Step::Leaf(Leaf::Letter(b'X'));
 
 /// The law `no_first`.
 pub const NO_FIRST: Law = Law {
     names: &[],
     terms: &[
-        X,
-        Step::Call(ground::CAR, 1),
-        Step::Call(ground::COUNT, 1),
-        Step::Call(ground::ZERO, 0),
-        X,
-        Step::Call(ground::CAR, 1),
-        Step::Call(ground::ZERO, 0),
-        Step::Call(ground::EQUAL, 2),
-        Step::Call(ground::ZERO, 0),
-        Step::Call(ground::COUNT, 1),
-        Step::Call(ground::ZERO, 0),
-        Step::Call(ground::EQUAL, 2),
+        X, CAR, COUNT, ZERO, X, CAR, ZERO, EQUAL, ZERO, COUNT, ZERO, EQUAL,
     ],
     rules: &[
         LawRule::AxiomRow(ground::CONS, 8, 1),

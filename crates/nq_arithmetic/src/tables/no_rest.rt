@@ -1,28 +1,15 @@
 //! The table of the law `no_rest`. It is printed.
 
 use nq_bank::ground;
+use nq_replay::words::{CDR, COUNT, EQUAL, X, ZERO};
 use nq_replay::{Law, LawRule};
 use nq_rule::Side;
-use nq_steps::{Leaf, Step};
-
-const X: Step = Step::Leaf(Leaf::Letter(b'X'));
 
 /// The law `no_rest`.
 pub const NO_REST: Law = Law {
     names: &[],
     terms: &[
-        X,
-        Step::Call(ground::CDR, 1),
-        Step::Call(ground::COUNT, 1),
-        Step::Call(ground::ZERO, 0),
-        X,
-        Step::Call(ground::CDR, 1),
-        Step::Call(ground::ZERO, 0),
-        Step::Call(ground::EQUAL, 2),
-        Step::Call(ground::ZERO, 0),
-        Step::Call(ground::COUNT, 1),
-        Step::Call(ground::ZERO, 0),
-        Step::Call(ground::EQUAL, 2),
+        X, CDR, COUNT, ZERO, X, CDR, ZERO, EQUAL, ZERO, COUNT, ZERO, EQUAL,
     ],
     rules: &[
         LawRule::AxiomRow(ground::CONS, 8, 2),

@@ -1,10 +1,8 @@
 //! The table of the law `one_more_is_number`. It is printed.
 
 use nq_bank::ground;
+use nq_replay::words::X;
 use nq_replay::{Law, LawPair, LawRule};
-use nq_steps::{Leaf, Step};
-
-const X: Step = Step::Leaf(Leaf::Letter(b'X'));
 
 /// The law `one_more_is_number`.
 pub const ONE_MORE_IS_NUMBER: Law = Law {

@@ -1,79 +1,18 @@
 //! The table of the law `size_of_pair`. It is printed.
 
 use nq_bank::ground;
+use nq_replay::words::{ADD1, CONS, COUNT, EQUAL, IF, PLUS, TRUE, X, Y, ZERO};
 use nq_replay::{Law, LawPair, LawRule};
 use nq_rule::Side;
-use nq_steps::{Leaf, Step};
-
-const X: Step = Step::Leaf(Leaf::Letter(b'X'));
-
-const Y: Step = Step::Leaf(Leaf::Letter(b'Y'));
 
 /// The law `size_of_pair`.
 pub const SIZE_OF_PAIR: Law = Law {
     names: &[b"X1", b"X2", b"X", b"Y", b"Z"],
     terms: &[
-        X,
-        Y,
-        Step::Call(ground::TRUE, 0),
-        X,
-        Step::Call(ground::COUNT, 1),
-        Step::Call(ground::ZERO, 0),
-        Y,
-        Step::Call(ground::COUNT, 1),
-        X,
-        Step::Call(ground::COUNT, 1),
-        Y,
-        Step::Call(ground::COUNT, 1),
-        Step::Call(ground::PLUS, 2),
-        Step::Call(ground::ADD1, 1),
-        Step::Call(ground::TRUE, 0),
-        Y,
-        Step::Call(ground::COUNT, 1),
-        Step::Call(ground::ZERO, 0),
-        Step::Call(ground::IF, 3),
-        Step::Call(ground::TRUE, 0),
-        Y,
-        Step::Call(ground::COUNT, 1),
-        Step::Call(ground::ZERO, 0),
-        Step::Call(ground::IF, 3),
-        Y,
-        Step::Call(ground::COUNT, 1),
-        Step::Call(ground::EQUAL, 2),
-        Step::Call(ground::TRUE, 0),
-        X,
-        Step::Call(ground::COUNT, 1),
-        Step::Call(ground::ZERO, 0),
-        Step::Call(ground::IF, 3),
-        Step::Call(ground::TRUE, 0),
-        X,
-        Step::Call(ground::COUNT, 1),
-        Step::Call(ground::ZERO, 0),
-        Step::Call(ground::IF, 3),
-        X,
-        Step::Call(ground::COUNT, 1),
-        Step::Call(ground::EQUAL, 2),
-        X,
-        Y,
-        Step::Call(ground::CONS, 2),
-        Step::Call(ground::COUNT, 1),
-        X,
-        Y,
-        Step::Call(ground::CONS, 2),
-        Step::Call(ground::COUNT, 1),
-        Step::Call(ground::TRUE, 0),
-        X,
-        Step::Call(ground::COUNT, 1),
-        Step::Call(ground::ZERO, 0),
-        Step::Call(ground::IF, 3),
-        Step::Call(ground::TRUE, 0),
-        Y,
-        Step::Call(ground::COUNT, 1),
-        Step::Call(ground::ZERO, 0),
-        Step::Call(ground::IF, 3),
-        Step::Call(ground::PLUS, 2),
-        Step::Call(ground::ADD1, 1),
-        Step::Call(ground::EQUAL, 2),
+        X, Y, TRUE, X, COUNT, ZERO, Y, COUNT, X, COUNT, Y, COUNT, PLUS, ADD1, TRUE, Y, COUNT, ZERO,
+        IF, TRUE, Y, COUNT, ZERO, IF, Y, COUNT, EQUAL, TRUE, X, COUNT, ZERO, IF, TRUE, X, COUNT,
+        ZERO, IF, X, COUNT, EQUAL, X, Y, CONS, COUNT, X, Y, CONS, COUNT, TRUE, X, COUNT, ZERO, IF,
+        TRUE, Y, COUNT, ZERO, IF, PLUS, ADD1, EQUAL,
     ],
     rules: &[
         LawRule::AxiomRow(ground::IF, 2, 0),

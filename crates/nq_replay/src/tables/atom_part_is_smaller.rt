@@ -1,57 +1,17 @@
 //! The table of the law `atom_part_is_smaller`. It is printed.
 
 use crate::table::{Law, LawPair, LawRule};
+use crate::words::{ADD1, COUNT, EQUAL, IF, PACK, TRUE, UNPACK, X, ZERO};
 use nq_bank::ground;
 use nq_rule::Side;
-use nq_steps::{Leaf, Step};
-
-const X: Step = Step::Leaf(Leaf::Letter(b'X'));
 
 /// The law `atom_part_is_smaller`.
 pub const ATOM_PART_IS_SMALLER: Law = Law {
     names: &[b"X1", b"X", b"Y", b"Z"],
     terms: &[
-        X,
-        Step::Call(ground::UNPACK, 1),
-        X,
-        X,
-        Step::Call(ground::UNPACK, 1),
-        Step::Call(ground::PACK, 1),
-        X,
-        Step::Call(ground::EQUAL, 2),
-        Step::Call(ground::TRUE, 0),
-        X,
-        Step::Call(ground::UNPACK, 1),
-        Step::Call(ground::COUNT, 1),
-        Step::Call(ground::ZERO, 0),
-        Step::Call(ground::TRUE, 0),
-        X,
-        Step::Call(ground::UNPACK, 1),
-        Step::Call(ground::COUNT, 1),
-        Step::Call(ground::ZERO, 0),
-        Step::Call(ground::IF, 3),
-        Step::Call(ground::TRUE, 0),
-        X,
-        Step::Call(ground::UNPACK, 1),
-        Step::Call(ground::COUNT, 1),
-        Step::Call(ground::ZERO, 0),
-        Step::Call(ground::IF, 3),
-        X,
-        Step::Call(ground::UNPACK, 1),
-        Step::Call(ground::COUNT, 1),
-        Step::Call(ground::EQUAL, 2),
-        X,
-        Step::Call(ground::COUNT, 1),
-        X,
-        Step::Call(ground::COUNT, 1),
-        Step::Call(ground::TRUE, 0),
-        X,
-        Step::Call(ground::UNPACK, 1),
-        Step::Call(ground::COUNT, 1),
-        Step::Call(ground::ZERO, 0),
-        Step::Call(ground::IF, 3),
-        Step::Call(ground::ADD1, 1),
-        Step::Call(ground::EQUAL, 2),
+        X, UNPACK, X, X, UNPACK, PACK, X, EQUAL, TRUE, X, UNPACK, COUNT, ZERO, TRUE, X, UNPACK,
+        COUNT, ZERO, IF, TRUE, X, UNPACK, COUNT, ZERO, IF, X, UNPACK, COUNT, EQUAL, X, COUNT, X,
+        COUNT, TRUE, X, UNPACK, COUNT, ZERO, IF, ADD1, EQUAL,
     ],
     rules: &[
         LawRule::AxiomRow(ground::IF, 2, 0),

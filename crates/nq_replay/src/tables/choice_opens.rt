@@ -1,56 +1,17 @@
 //! The table of the law `choice_opens`. It is printed.
 
 use crate::table::{Law, LawPair, LawRule};
+use crate::words::{EQUAL, FALSE, IF, OR, TRUE, X, Y};
 use nq_bank::ground;
 use nq_rule::Side;
-use nq_steps::{Leaf, Step};
-
-const X: Step = Step::Leaf(Leaf::Letter(b'X'));
-
-const Y: Step = Step::Leaf(Leaf::Letter(b'Y'));
 
 /// The law `choice_opens`.
 pub const CHOICE_OPENS: Law = Law {
     names: &[b"P", b"Q", b"X", b"Y", b"Z"],
     terms: &[
-        X,
-        Y,
-        Step::Call(ground::TRUE, 0),
-        Step::Call(ground::FALSE, 0),
-        X,
-        Step::Call(ground::TRUE, 0),
-        Step::Call(ground::FALSE, 0),
-        Step::Call(ground::IF, 3),
-        X,
-        Step::Call(ground::TRUE, 0),
-        Step::Call(ground::FALSE, 0),
-        Step::Call(ground::IF, 3),
-        Step::Call(ground::FALSE, 0),
-        Step::Call(ground::EQUAL, 2),
-        Y,
-        Step::Call(ground::TRUE, 0),
-        Step::Call(ground::FALSE, 0),
-        Step::Call(ground::IF, 3),
-        Y,
-        Step::Call(ground::TRUE, 0),
-        Step::Call(ground::FALSE, 0),
-        Step::Call(ground::IF, 3),
-        Step::Call(ground::FALSE, 0),
-        Step::Call(ground::EQUAL, 2),
-        X,
-        Y,
-        Step::Call(ground::OR, 2),
-        X,
-        Y,
-        Step::Call(ground::OR, 2),
-        X,
-        Step::Call(ground::TRUE, 0),
-        Y,
-        Step::Call(ground::TRUE, 0),
-        Step::Call(ground::FALSE, 0),
-        Step::Call(ground::IF, 3),
-        Step::Call(ground::IF, 3),
-        Step::Call(ground::EQUAL, 2),
+        X, Y, TRUE, FALSE, X, TRUE, FALSE, IF, X, TRUE, FALSE, IF, FALSE, EQUAL, Y, TRUE, FALSE,
+        IF, Y, TRUE, FALSE, IF, FALSE, EQUAL, X, Y, OR, X, Y, OR, X, TRUE, Y, TRUE, FALSE, IF, IF,
+        EQUAL,
     ],
     rules: &[
         LawRule::AxiomRow(ground::IF, 1, 0),

@@ -1,36 +1,16 @@
 //! The table of the law `first_by_no_atom`. It is printed.
 
 use crate::table::{Law, LawRule};
+use crate::words::{EQUAL, LISTP, NLISTP, NOT, X};
 use nq_bank::ground;
 use nq_rule::Side;
-use nq_steps::{Leaf, Step};
-
-const X: Step = Step::Leaf(Leaf::Letter(b'X'));
 
 /// The law `first_by_no_atom`.
 pub const FIRST_BY_NO_ATOM: Law = Law {
     names: &[],
     terms: &[
-        X,
-        Step::Call(ground::LISTP, 1),
-        Step::Call(ground::NOT, 1),
-        Step::Call(ground::NOT, 1),
-        X,
-        Step::Call(ground::LISTP, 1),
-        Step::Call(ground::NOT, 1),
-        Step::Call(ground::NOT, 1),
-        Step::Call(ground::NOT, 1),
-        X,
-        Step::Call(ground::NLISTP, 1),
-        X,
-        Step::Call(ground::NLISTP, 1),
-        X,
-        Step::Call(ground::LISTP, 1),
-        Step::Call(ground::NOT, 1),
-        Step::Call(ground::EQUAL, 2),
-        X,
-        Step::Call(ground::LISTP, 1),
-        Step::Call(ground::NOT, 1),
+        X, LISTP, NOT, NOT, X, LISTP, NOT, NOT, NOT, X, NLISTP, X, NLISTP, X, LISTP, NOT, EQUAL, X,
+        LISTP, NOT,
     ],
     rules: &[
         LawRule::AxiomRow(ground::NLISTP, 1, 0),

@@ -1,55 +1,16 @@
 //! The table of the law `first_of_pair`. It is printed.
 
 use crate::table::{Law, LawPair, LawRule};
+use crate::words::{AND, EQUAL, FALSE, IF, TRUE, X, Y};
 use nq_bank::ground;
 use nq_rule::Side;
-use nq_steps::{Leaf, Step};
-
-const X: Step = Step::Leaf(Leaf::Letter(b'X'));
-
-const Y: Step = Step::Leaf(Leaf::Letter(b'Y'));
 
 /// The law `first_of_pair`.
 pub const FIRST_OF_PAIR: Law = Law {
     names: &[b"P", b"Q", b"Y", b"Z"],
     terms: &[
-        X,
-        Y,
-        Y,
-        Step::Call(ground::TRUE, 0),
-        Step::Call(ground::FALSE, 0),
-        Step::Call(ground::IF, 3),
-        Step::Call(ground::FALSE, 0),
-        X,
-        Y,
-        Step::Call(ground::TRUE, 0),
-        Step::Call(ground::FALSE, 0),
-        Step::Call(ground::IF, 3),
-        Step::Call(ground::FALSE, 0),
-        Step::Call(ground::IF, 3),
-        X,
-        Y,
-        Step::Call(ground::TRUE, 0),
-        Step::Call(ground::FALSE, 0),
-        Step::Call(ground::IF, 3),
-        Step::Call(ground::FALSE, 0),
-        Step::Call(ground::IF, 3),
-        Step::Call(ground::FALSE, 0),
-        Step::Call(ground::EQUAL, 2),
-        X,
-        Y,
-        Step::Call(ground::AND, 2),
-        X,
-        Y,
-        Step::Call(ground::AND, 2),
-        X,
-        Y,
-        Step::Call(ground::TRUE, 0),
-        Step::Call(ground::FALSE, 0),
-        Step::Call(ground::IF, 3),
-        Step::Call(ground::FALSE, 0),
-        Step::Call(ground::IF, 3),
-        Step::Call(ground::EQUAL, 2),
+        X, Y, Y, TRUE, FALSE, IF, FALSE, X, Y, TRUE, FALSE, IF, FALSE, IF, X, Y, TRUE, FALSE, IF,
+        FALSE, IF, FALSE, EQUAL, X, Y, AND, X, Y, AND, X, Y, TRUE, FALSE, IF, FALSE, IF, EQUAL,
     ],
     rules: &[
         LawRule::AxiomRow(ground::IF, 1, 0),

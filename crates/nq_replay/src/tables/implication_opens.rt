@@ -1,56 +1,17 @@
 //! The table of the law `implication_opens`. It is printed.
 
 use crate::table::{Law, LawPair, LawRule};
+use crate::words::{EQUAL, FALSE, IF, IMPLIES, TRUE, X, Y};
 use nq_bank::ground;
 use nq_rule::Side;
-use nq_steps::{Leaf, Step};
-
-const X: Step = Step::Leaf(Leaf::Letter(b'X'));
-
-const Y: Step = Step::Leaf(Leaf::Letter(b'Y'));
 
 /// The law `implication_opens`.
 pub const IMPLICATION_OPENS: Law = Law {
     names: &[b"P", b"Q", b"Y", b"Z", b"X"],
     terms: &[
-        X,
-        Y,
-        Step::Call(ground::FALSE, 0),
-        Step::Call(ground::TRUE, 0),
-        X,
-        Step::Call(ground::FALSE, 0),
-        Step::Call(ground::TRUE, 0),
-        Step::Call(ground::IF, 3),
-        X,
-        Step::Call(ground::FALSE, 0),
-        Step::Call(ground::TRUE, 0),
-        Step::Call(ground::IF, 3),
-        Step::Call(ground::FALSE, 0),
-        Step::Call(ground::EQUAL, 2),
-        Y,
-        Step::Call(ground::TRUE, 0),
-        Step::Call(ground::FALSE, 0),
-        Step::Call(ground::IF, 3),
-        Y,
-        Step::Call(ground::TRUE, 0),
-        Step::Call(ground::FALSE, 0),
-        Step::Call(ground::IF, 3),
-        Step::Call(ground::FALSE, 0),
-        Step::Call(ground::EQUAL, 2),
-        X,
-        Y,
-        Step::Call(ground::IMPLIES, 2),
-        X,
-        Y,
-        Step::Call(ground::IMPLIES, 2),
-        X,
-        Y,
-        Step::Call(ground::TRUE, 0),
-        Step::Call(ground::FALSE, 0),
-        Step::Call(ground::IF, 3),
-        Step::Call(ground::TRUE, 0),
-        Step::Call(ground::IF, 3),
-        Step::Call(ground::EQUAL, 2),
+        X, Y, FALSE, TRUE, X, FALSE, TRUE, IF, X, FALSE, TRUE, IF, FALSE, EQUAL, Y, TRUE, FALSE,
+        IF, Y, TRUE, FALSE, IF, FALSE, EQUAL, X, Y, IMPLIES, X, Y, IMPLIES, X, Y, TRUE, FALSE, IF,
+        TRUE, IF, EQUAL,
     ],
     rules: &[
         LawRule::AxiomRow(ground::IF, 2, 0),

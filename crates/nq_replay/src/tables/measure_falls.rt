@@ -1,55 +1,17 @@
 //! The table of the law `measure_falls`. It is printed.
 
 use crate::table::{Law, LawPair, LawRule};
+use crate::words::{EQUAL, IF, NOT, ORD_LESSP, ORDINALP, X, Y, ZERO};
 use nq_bank::ground;
 use nq_rule::Side;
-use nq_steps::{Leaf, Step};
-
-const X: Step = Step::Leaf(Leaf::Letter(b'X'));
-
-const Y: Step = Step::Leaf(Leaf::Letter(b'Y'));
 
 /// The law `measure_falls`.
 pub const MEASURE_FALLS: Law = Law {
     names: &[b"X", b"Y", b"Z"],
     terms: &[
-        X,
-        Step::Call(ground::ORDINALP, 1),
-        X,
-        Step::Call(ground::ZERO, 0),
-        Y,
-        Step::Call(ground::ORDINALP, 1),
-        X,
-        Y,
-        Step::Call(ground::ORD_LESSP, 2),
-        X,
-        Y,
-        Step::Call(ground::ORD_LESSP, 2),
-        Step::Call(ground::NOT, 1),
-        Y,
-        Step::Call(ground::ORDINALP, 1),
-        Y,
-        Step::Call(ground::ZERO, 0),
-        Step::Call(ground::IF, 3),
-        Y,
-        Step::Call(ground::ORDINALP, 1),
-        Y,
-        Step::Call(ground::ZERO, 0),
-        Step::Call(ground::IF, 3),
-        Y,
-        Step::Call(ground::EQUAL, 2),
-        X,
-        Step::Call(ground::ORDINALP, 1),
-        X,
-        Step::Call(ground::ZERO, 0),
-        Step::Call(ground::IF, 3),
-        X,
-        Step::Call(ground::ORDINALP, 1),
-        X,
-        Step::Call(ground::ZERO, 0),
-        Step::Call(ground::IF, 3),
-        X,
-        Step::Call(ground::EQUAL, 2),
+        X, ORDINALP, X, ZERO, Y, ORDINALP, X, Y, ORD_LESSP, X, Y, ORD_LESSP, NOT, Y, ORDINALP, Y,
+        ZERO, IF, Y, ORDINALP, Y, ZERO, IF, Y, EQUAL, X, ORDINALP, X, ZERO, IF, X, ORDINALP, X,
+        ZERO, IF, X, EQUAL,
     ],
     rules: &[
         LawRule::AxiomRow(ground::IF, 2, 0),

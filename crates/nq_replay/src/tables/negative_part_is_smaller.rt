@@ -1,69 +1,18 @@
 //! The table of the law `negative_part_is_smaller`. It is printed.
 
 use crate::table::{Law, LawPair, LawRule};
+use crate::words::{ADD1, COUNT, EQUAL, GUTS, IF, MINUS, NUMBERP, X, ZERO};
 use nq_bank::ground;
 use nq_rule::Side;
-use nq_steps::{Leaf, Step};
-
-const X: Step = Step::Leaf(Leaf::Letter(b'X'));
 
 /// The law `negative_part_is_smaller`.
 pub const NEGATIVE_PART_IS_SMALLER: Law = Law {
     names: &[b"X1", b"X", b"Y", b"Z"],
     terms: &[
-        X,
-        Step::Call(ground::NEGATIVE_GUTS, 1),
-        X,
-        X,
-        Step::Call(ground::NEGATIVE_GUTS, 1),
-        Step::Call(ground::MINUS, 1),
-        X,
-        Step::Call(ground::EQUAL, 2),
-        X,
-        Step::Call(ground::NEGATIVE_GUTS, 1),
-        Step::Call(ground::ZERO, 0),
-        Step::Call(ground::EQUAL, 2),
-        X,
-        Step::Call(ground::NEGATIVE_GUTS, 1),
-        Step::Call(ground::NUMBERP, 1),
-        X,
-        Step::Call(ground::NEGATIVE_GUTS, 1),
-        Step::Call(ground::COUNT, 1),
-        Step::Call(ground::ZERO, 0),
-        X,
-        Step::Call(ground::NEGATIVE_GUTS, 1),
-        Step::Call(ground::NUMBERP, 1),
-        X,
-        Step::Call(ground::NEGATIVE_GUTS, 1),
-        Step::Call(ground::COUNT, 1),
-        Step::Call(ground::ZERO, 0),
-        Step::Call(ground::IF, 3),
-        X,
-        Step::Call(ground::NEGATIVE_GUTS, 1),
-        Step::Call(ground::NUMBERP, 1),
-        X,
-        Step::Call(ground::NEGATIVE_GUTS, 1),
-        Step::Call(ground::COUNT, 1),
-        Step::Call(ground::ZERO, 0),
-        Step::Call(ground::IF, 3),
-        X,
-        Step::Call(ground::NEGATIVE_GUTS, 1),
-        Step::Call(ground::COUNT, 1),
-        Step::Call(ground::EQUAL, 2),
-        X,
-        Step::Call(ground::COUNT, 1),
-        X,
-        Step::Call(ground::COUNT, 1),
-        X,
-        Step::Call(ground::NEGATIVE_GUTS, 1),
-        Step::Call(ground::NUMBERP, 1),
-        X,
-        Step::Call(ground::NEGATIVE_GUTS, 1),
-        Step::Call(ground::COUNT, 1),
-        Step::Call(ground::ZERO, 0),
-        Step::Call(ground::IF, 3),
-        Step::Call(ground::ADD1, 1),
-        Step::Call(ground::EQUAL, 2),
+        X, GUTS, X, X, GUTS, MINUS, X, EQUAL, X, GUTS, ZERO, EQUAL, X, GUTS, NUMBERP, X, GUTS,
+        COUNT, ZERO, X, GUTS, NUMBERP, X, GUTS, COUNT, ZERO, IF, X, GUTS, NUMBERP, X, GUTS, COUNT,
+        ZERO, IF, X, GUTS, COUNT, EQUAL, X, COUNT, X, COUNT, X, GUTS, NUMBERP, X, GUTS, COUNT,
+        ZERO, IF, ADD1, EQUAL,
     ],
     rules: &[
         LawRule::AxiomRow(ground::ADD1, 3, 0),

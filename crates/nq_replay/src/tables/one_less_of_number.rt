@@ -1,73 +1,18 @@
 //! The table of the law `one_less_of_number`. It is printed.
 
 use crate::table::{Law, LawPair, LawRule};
+use crate::words::{EQUAL, FALSE, IF, NOT, NUMBERP, TRUE, X, ZERO, ZEROP};
 use nq_bank::ground;
 use nq_rule::Side;
-use nq_steps::{Leaf, Step};
-
-const X: Step = Step::Leaf(Leaf::Letter(b'X'));
 
 /// The law `one_less_of_number`.
 pub const ONE_LESS_OF_NUMBER: Law = Law {
     names: &[b"X", b"Y", b"Z"],
     terms: &[
-        X,
-        Step::Call(ground::NUMBERP, 1),
-        Step::Call(ground::FALSE, 0),
-        Step::Call(ground::TRUE, 0),
-        X,
-        Step::Call(ground::ZERO, 0),
-        Step::Call(ground::EQUAL, 2),
-        X,
-        Step::Call(ground::ZERO, 0),
-        Step::Call(ground::EQUAL, 2),
-        Step::Call(ground::TRUE, 0),
-        Step::Call(ground::FALSE, 0),
-        Step::Call(ground::IF, 3),
-        X,
-        Step::Call(ground::ZERO, 0),
-        Step::Call(ground::EQUAL, 2),
-        Step::Call(ground::TRUE, 0),
-        Step::Call(ground::FALSE, 0),
-        Step::Call(ground::IF, 3),
-        Step::Call(ground::FALSE, 0),
-        Step::Call(ground::EQUAL, 2),
-        X,
-        Step::Call(ground::NUMBERP, 1),
-        Step::Call(ground::FALSE, 0),
-        Step::Call(ground::TRUE, 0),
-        Step::Call(ground::IF, 3),
-        X,
-        Step::Call(ground::NUMBERP, 1),
-        Step::Call(ground::FALSE, 0),
-        Step::Call(ground::TRUE, 0),
-        Step::Call(ground::IF, 3),
-        Step::Call(ground::FALSE, 0),
-        Step::Call(ground::EQUAL, 2),
-        X,
-        Step::Call(ground::ZEROP, 1),
-        X,
-        Step::Call(ground::ZEROP, 1),
-        X,
-        Step::Call(ground::ZERO, 0),
-        Step::Call(ground::EQUAL, 2),
-        Step::Call(ground::TRUE, 0),
-        X,
-        Step::Call(ground::NUMBERP, 1),
-        Step::Call(ground::FALSE, 0),
-        Step::Call(ground::TRUE, 0),
-        Step::Call(ground::IF, 3),
-        Step::Call(ground::IF, 3),
-        Step::Call(ground::EQUAL, 2),
-        X,
-        Step::Call(ground::ZERO, 0),
-        Step::Call(ground::EQUAL, 2),
-        Step::Call(ground::NOT, 1),
-        X,
-        Step::Call(ground::ZERO, 0),
-        Step::Call(ground::EQUAL, 2),
-        Step::Call(ground::NOT, 1),
-        Step::Call(ground::NOT, 1),
+        X, NUMBERP, FALSE, TRUE, X, ZERO, EQUAL, X, ZERO, EQUAL, TRUE, FALSE, IF, X, ZERO, EQUAL,
+        TRUE, FALSE, IF, FALSE, EQUAL, X, NUMBERP, FALSE, TRUE, IF, X, NUMBERP, FALSE, TRUE, IF,
+        FALSE, EQUAL, X, ZEROP, X, ZEROP, X, ZERO, EQUAL, TRUE, X, NUMBERP, FALSE, TRUE, IF, IF,
+        EQUAL, X, ZERO, EQUAL, NOT, X, ZERO, EQUAL, NOT, NOT,
     ],
     rules: &[
         LawRule::AxiomRow(ground::IF, 2, 0),

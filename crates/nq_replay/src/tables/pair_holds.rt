@@ -1,56 +1,17 @@
 //! The table of the law `pair_holds`. It is printed.
 
 use crate::table::{Law, LawPair, LawRule};
+use crate::words::{AND, EQUAL, FALSE, IF, TRUE, X, Y};
 use nq_bank::ground;
 use nq_rule::Side;
-use nq_steps::{Leaf, Step};
-
-const X: Step = Step::Leaf(Leaf::Letter(b'X'));
-
-const Y: Step = Step::Leaf(Leaf::Letter(b'Y'));
 
 /// The law `pair_holds`.
 pub const PAIR_HOLDS: Law = Law {
     names: &[b"P", b"Q", b"X", b"Y", b"Z"],
     terms: &[
-        X,
-        Y,
-        Step::Call(ground::TRUE, 0),
-        Step::Call(ground::FALSE, 0),
-        X,
-        Step::Call(ground::TRUE, 0),
-        Step::Call(ground::FALSE, 0),
-        Step::Call(ground::IF, 3),
-        X,
-        Step::Call(ground::TRUE, 0),
-        Step::Call(ground::FALSE, 0),
-        Step::Call(ground::IF, 3),
-        Step::Call(ground::TRUE, 0),
-        Step::Call(ground::EQUAL, 2),
-        Y,
-        Step::Call(ground::TRUE, 0),
-        Step::Call(ground::FALSE, 0),
-        Step::Call(ground::IF, 3),
-        Y,
-        Step::Call(ground::TRUE, 0),
-        Step::Call(ground::FALSE, 0),
-        Step::Call(ground::IF, 3),
-        Step::Call(ground::TRUE, 0),
-        Step::Call(ground::EQUAL, 2),
-        X,
-        Y,
-        Step::Call(ground::AND, 2),
-        X,
-        Y,
-        Step::Call(ground::AND, 2),
-        X,
-        Y,
-        Step::Call(ground::TRUE, 0),
-        Step::Call(ground::FALSE, 0),
-        Step::Call(ground::IF, 3),
-        Step::Call(ground::FALSE, 0),
-        Step::Call(ground::IF, 3),
-        Step::Call(ground::EQUAL, 2),
+        X, Y, TRUE, FALSE, X, TRUE, FALSE, IF, X, TRUE, FALSE, IF, TRUE, EQUAL, Y, TRUE, FALSE, IF,
+        Y, TRUE, FALSE, IF, TRUE, EQUAL, X, Y, AND, X, Y, AND, X, Y, TRUE, FALSE, IF, FALSE, IF,
+        EQUAL,
     ],
     rules: &[
         LawRule::AxiomRow(ground::IF, 2, 0),

@@ -1097,8 +1097,8 @@ outside::rewrite_call-rewrite_on-requires t c =
     let h : List Entry = c.args.history.now in
     let hyps : List TermId = c.args.assumed.now in
     let old : Work = c.args.work.now in
-    let one : Work = c.reduce_call.new.work in
-    let g1 : WorkGrows h old one = c.reduce_call.ensures.grows in
+    let one : Work = c.reduce_kinded.new.work in
+    let g1 : WorkGrows h old one = c.reduce_kinded.ensures.grows in
     let fewer : one.counter.limit - one.counter.used ≤ old.counter.limit - old.counter.used = fewer_left h old one g1 in
     (omega (arith, fewer), (c.requires.depth, ((can_grown h old one g1 hyps c.args.t c.requires.can), rewritten_now h hyps old one c.args.t c.in_ok-step.step g1 c.requires.can c.in_ok-step.ensures.ok)))
 
@@ -1107,8 +1107,8 @@ outside::rewrite_call-returns-in-Some-clause-ok t c =
     let h : List Entry = c.args.history.now in
     let hyps : List TermId = c.args.assumed.now in
     let old : Work = c.args.work.now in
-    let one : Work = c.reduce_call.new.work in
-    let g1 : WorkGrows h old one = c.reduce_call.ensures.grows in
+    let one : Work = c.reduce_kinded.new.work in
+    let g1 : WorkGrows h old one = c.reduce_kinded.ensures.grows in
     let two : Work = c.rewrite_on.new.work in
     let g2 : WorkGrows h one two = c.rewrite_on.ensures.grows in
     told_before h hyps old one two c.args.t c.rewrite_on.result g1 c.requires.can c.rewrite_on.ensures.ok
@@ -1118,8 +1118,8 @@ outside::rewrite_call-returns-in-Some-clause-grows t c =
     let h : List Entry = c.args.history.now in
     let hyps : List TermId = c.args.assumed.now in
     let old : Work = c.args.work.now in
-    let one : Work = c.reduce_call.new.work in
-    let g1 : WorkGrows h old one = c.reduce_call.ensures.grows in
+    let one : Work = c.reduce_kinded.new.work in
+    let g1 : WorkGrows h old one = c.reduce_kinded.ensures.grows in
     let two : Work = c.rewrite_on.new.work in
     let g2 : WorkGrows h one two = c.rewrite_on.ensures.grows in
     (WorkGrows-trans h old one two g1 g2)
@@ -1129,8 +1129,8 @@ outside::rewrite_call-rewrite_further-requires t c =
     let h : List Entry = c.args.history.now in
     let hyps : List TermId = c.args.assumed.now in
     let old : Work = c.args.work.now in
-    let one : Work = c.reduce_call.new.work in
-    let g1 : WorkGrows h old one = c.reduce_call.ensures.grows in
+    let one : Work = c.reduce_kinded.new.work in
+    let g1 : WorkGrows h old one = c.reduce_kinded.ensures.grows in
     let fewer : one.counter.limit - one.counter.used ≤ old.counter.limit - old.counter.used = fewer_left h old one g1 in
     (omega (arith, fewer), (c.requires.depth, (can_grown h old one g1 hyps c.args.t c.requires.can)))
 
@@ -1139,8 +1139,8 @@ outside::rewrite_call-returns-in-None-clause-ok t c =
     let h : List Entry = c.args.history.now in
     let hyps : List TermId = c.args.assumed.now in
     let old : Work = c.args.work.now in
-    let one : Work = c.reduce_call.new.work in
-    let g1 : WorkGrows h old one = c.reduce_call.ensures.grows in
+    let one : Work = c.reduce_kinded.new.work in
+    let g1 : WorkGrows h old one = c.reduce_kinded.ensures.grows in
     let two : Work = c.rewrite_further.new.work in
     let g2 : WorkGrows h one two = c.rewrite_further.ensures.grows in
     told_before h hyps old one two c.args.t c.rewrite_further.result g1 c.requires.can c.rewrite_further.ensures.ok
@@ -1150,8 +1150,8 @@ outside::rewrite_call-returns-in-None-clause-grows t c =
     let h : List Entry = c.args.history.now in
     let hyps : List TermId = c.args.assumed.now in
     let old : Work = c.args.work.now in
-    let one : Work = c.reduce_call.new.work in
-    let g1 : WorkGrows h old one = c.reduce_call.ensures.grows in
+    let one : Work = c.reduce_kinded.new.work in
+    let g1 : WorkGrows h old one = c.reduce_kinded.ensures.grows in
     let two : Work = c.rewrite_further.new.work in
     let g2 : WorkGrows h one two = c.rewrite_further.ensures.grows in
     (WorkGrows-trans h old one two g1 g2)

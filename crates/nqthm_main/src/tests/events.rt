@@ -59,7 +59,12 @@ fn an_event_has_its_first_refusal(rt: HostRuntime) -> Result<(), Fail> {
             b"(X) X ((LESSP Y))",
             b"Refused 65 BadMeasureHint.",
         ),
-        (b"DEFN", b"H", b"(X) (H X)", b"Refused 9 NotYet DEFN."),
+        (
+            b"DEFN",
+            b"H",
+            b"(X) (H X)",
+            b"Tried (COUNT X): (ORD-LESSP (COUNT X) (COUNT X)) failed.\n   Refused 64 NoMeasure.",
+        ),
         (
             b"DEFN",
             b"H",

@@ -9,7 +9,12 @@ use Rattle.nq_measures.specs.Trials.{IsTrial}
 use Rattle.nq_run.specs.Outcome.{AreBlocks}
 use Rattle.nq_run.specs.Recursions.{kept_claims}
 use Rattle.nq_run.proofs.ProvingLemmas.{given_back_is, no_line_holds, symbols_kept}
-use Rattle.nq_run.proofs.RecursionLemmas.{block_is, closes_if, kept_is, names_later, new_function, stands_if, trials}
+use Rattle.nq_run.proofs.RecursionLemmas.{block_is, closes_if, kept_is, left_if, names_later, new_function, stands_if, trials, trials_if}
+use Rattle.nq_measures.proofs.LeftLemmas.{none_weaker}
+use Rattle.nq_comment.specs.declared.answer.Trial.{Trial}
+use Rattle.nq_comment.specs.ReportViews.{trials_of}
+use Rattle.std.specs.declared.vec.Vec.{Vec}
+use Rattle.std.specs.declared.alloc.Global.{Global}
 use Rattle.nq_run.proofs.recursions.try_recursion.Goals as goal
 
 pub find_measure-requires-clause-ready : goal.find_measure-requires-clause-ready
@@ -47,13 +52,19 @@ pub recursion_by-requires-clause-measure : goal.recursion_by-requires-clause-mea
 recursion_by-requires-clause-measure g c =
     let r = c.args.recursion in
     stands_if c.args.bank c.args.history.now r.name r.formals.now r.body c.args.tried.now c.requires.triable c.new-work.result.bank c.find_measure.new.work c.requires.history c.new-work.ensures.bank
-    c.find_measure.ensures.grows.bank c.in_ok-found.found c.in_ok-found.ensures.found
+    c.find_measure.ensures.grows.bank c.in_ok-measured.measured.found c.in_ok-measured.ensures.found
 
 pub recursion_by-requires-clause-closes : goal.recursion_by-requires-clause-closes
 recursion_by-requires-clause-closes g c =
     let r = c.args.recursion in
     closes_if c.args.bank c.args.history.now r.name r.formals.now r.body c.args.tried.now c.requires.triable c.new-work.result.bank c.find_measure.new.work c.requires.history c.new-work.ensures.bank
-    c.find_measure.ensures.grows.bank c.in_ok-found.found c.in_ok-found.ensures.found
+    c.find_measure.ensures.grows.bank c.in_ok-measured.measured.found c.in_ok-measured.ensures.found
+
+pub recursion_by-requires-clause-left : goal.recursion_by-requires-clause-left
+recursion_by-requires-clause-left g c =
+    let r = c.args.recursion in
+    left_if c.args.bank c.args.history.now r.name r.formals.now r.body c.args.tried.now c.requires.triable c.new-work.result.bank c.find_measure.new.work c.requires.history c.new-work.ensures.bank
+    c.find_measure.ensures.grows.bank c.in_ok-measured.measured.found c.in_ok-measured.measured.left.items c.in_ok-measured.ensures.left
 
 pub returns-clause-sought : goal.returns-clause-sought
 returns-clause-sought g c =
@@ -70,10 +81,13 @@ returns-clause-sought g c =
     record {
       same = back.bank ∙ ap (λ (b : Content). released b c.mark-mark.result) c.in_ok-sought.ensures.bank
           ∙ given_back_is bank begun work.bank h r.name r.body c.requires.history c.requires.triable.function.named c.requires.triable.function.stands c.new-work.ensures.bank grows c.mark-mark.result c.mark-mark.ensures;
-      kept = kept_is bank h r.name r.formals.now r.body tried c.requires.triable begun work c.requires.history c.new-work.ensures.bank grows c.in_ok-found.found c.returned.result.kept kept
-          c.in_ok-found.ensures.found c.find_measure.ensures.holds c.admitting_is_measure.ensures;
+      kept = kept_is bank h r.name r.formals.now r.body tried c.requires.triable begun work c.requires.history c.new-work.ensures.bank grows c.in_ok-measured.measured.found c.returned.result.kept kept
+          c.in_ok-measured.ensures.found c.find_measure.ensures.holds c.admitting_is_measure.ensures;
+      told = trials_if bank h r.name r.formals.now r.body tried c.requires.triable begun work c.requires.history c.new-work.ensures.bank grows c.in_ok-measured.measured.found c.returned.result.kept c.in_ok-measured.measured.left.items
+          (trials_of c.returned.result.trials.items) kept c.in_ok-measured.ensures.left
+          (none_weaker c.in_ok-measured.measured.found _ _ (λ are. ap (λ (ts : Vec Trial Global). trials_of ts.items) back.trials ∙ are) c.in_ok-sought.ensures.trials) c.find_measure.ensures.holds;
       written = λ on.
           subst (λ (text : List ℕ). AreBlocks (events_at bank h) (kept_claims bank r.name r.formals.now r.body c.returned.result.kept) text) (sym back.block)
-          (block_is bank h r.name r.formals.now r.body tried c.requires.triable begun work c.requires.history c.new-work.ensures.bank grows c.in_ok-found.found c.returned.result.kept sought.block kept
-          c.in_ok-found.ensures.found (c.in_ok-sought.ensures.written on));
+          (block_is bank h r.name r.formals.now r.body tried c.requires.triable begun work c.requires.history c.new-work.ensures.bank grows c.in_ok-measured.measured.found c.returned.result.kept sought.block kept
+          c.in_ok-measured.ensures.found (c.in_ok-sought.ensures.written on));
     }

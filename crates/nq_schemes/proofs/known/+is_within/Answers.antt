@@ -1,4 +1,4 @@
-use Rattle.std.proofs.Common.{◌<◌, get_or, refl, arith, rules}
+use Rattle.std.proofs.Common.{◌<◌, get_or, arith, rules}
 use Rattle.nq_bank.specs.declared.node.TermId.{TermId}
 use Rattle.nq_schemes.proofs.KnownLemmas.{argument_in, same_default}
 use Rattle.nq_schemes.proofs.known.+is_within.Goals as goal

@@ -6,4 +6,4 @@ use Rattle.nq_schemes.proofs.GrownLemmas.{terms_grown}
 use Rattle.nq_schemes.proofs.starting.fall_line.Goals as goal
 
 pub returns-clause-literals : goal.returns-clause-literals
-returns-clause-literals c = subst (All (IsTermIn c.args.history.now c.fall_tested.new.work)) (sym c.in_ok-add_literal.ensures.more) (All-push (IsTermIn c.args.history.now c.fall_tested.new.work) c.args.literals.now.items c.in_ok-fact.fact.term (terms_grown c.args.history.now c.args.work.now c.fall_tested.new.work c.requires.stands c.fall_tested.ensures.grows c.args.literals.now.items c.requires.literals) c.in_ok-fact.ensures.denied.term)
+returns-clause-literals c = subst (All (IsTermIn c.args.history.now c.denial_of.new.work)) (sym c.in_ok-add_literal.ensures.more) (All-push (IsTermIn c.args.history.now c.denial_of.new.work) c.args.literals.now.items c.in_ok-fact.fact.term (terms_grown c.args.history.now c.args.work.now c.denial_of.new.work c.requires.stands c.denial_of.ensures.grows c.args.literals.now.items c.requires.literals) c.in_ok-fact.ensures.denied.term)

@@ -60,7 +60,7 @@ returns-clause-taken g c =
     accepted c.args.self form (model.Defn name (texts_at bank c.args.formals.items) body measures) c.args.given.logging
     (record { name = c.args.name; kind = kind.Defn c.args.formals c.args.body None; mark = c.args.given.mark }) (defined_at bank c.args.name c.args.formals.items c.args.body) c.in_ok-block.block
     (defn_taken h bank name c.as_slice.result.now c.args.formals.items body measures c.as_slice.ensures.value c.in_ok-answer.field-0 c.in_ok-answer.ensures c.in_default.is)
-    (defn_outcome h name (texts_at bank c.args.formals.items) body measures form (sym c.in_ok-again.ensures ∙ c.if-again.false)) refl refl
+    (defn_outcome h name (texts_at bank c.args.formals.items) body measures (sym c.in_ok-again.ensures ∙ c.if-again.false)) refl refl
     (subst (λ (xs : List Sym). c.args.given.logging ≡ true → IsBlock h (defined_at bank c.args.name xs c.args.body) c.in_ok-block.block)
     (c.in_ok-told.ensures.items ∙ c.as_slice-2.ensures.value) c.in_ok-block.ensures)
     c.accepted.result c.accepted.ensures.added c.accepted.ensures.answer c.accepted.ensures.block

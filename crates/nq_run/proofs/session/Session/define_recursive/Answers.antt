@@ -1,6 +1,5 @@
 use Rattle.std.proofs.Common.{◌≡◌, true, List, map, sym, subst}
 use Rattle.std.specs.Prelude.{Option}
-use Rattle.std.proofs.lemmas.Result.{IfOk-weaker}
 use Rattle.nq_sexp.specs.Tree.{tree}
 use Rattle.nq_bank.specs.declared.node.Sym.{Sym}
 use Rattle.nq_bank.specs.declared.node.TermId.{TermId}
@@ -8,16 +7,15 @@ use Rattle.nq_bank.specs.Content.{term_at, terms_at, text_at}
 use Rattle.nq_bank.specs.Shells.{texts_at}
 use Rattle.nq_history.specs.Events.{events_at}
 use Rattle.nq_event.specs.EventsAt.{measure_at}
-use Rattle.nq_events.specs.Events as model
+use Rattle.nq_comment.specs.ReportViews.{trials_of}
 use Rattle.nq_events.specs.Measures.{tried_measures}
-use Rattle.nq_answers.specs.Steps.{not_yet}
 use Rattle.nq_run.specs.declared.recursions.Kept.{Kept}
 use Rattle.nq_run.specs.HistoryView.{history_of}
 use Rattle.nq_run.specs.Outcome.{AreBlocks}
 use Rattle.nq_run.specs.Recursions.{IsSought, IsTriable, kept_claims}
-use Rattle.nq_run.specs.Sessions.{IsUntaken, TakesEvent}
 use Rattle.nq_run.proofs.MeasuredLemmas.{free_kept, hints_shallow, kept_none, kept_some, left, mark_kept, measure_kept, names_kept, ready_kept, session_stands, taken_on, triable}
 use Rattle.nq_run.proofs.SessionLemmas.{stands_grown}
+use Rattle.nq_run.proofs.TrialLemmas.{none_told}
 use Rattle.nq_run.proofs.session.Session.define_recursive.Goals as goal
 
 pub tried_measures-requires-clause-shallow : goal.tried_measures-requires-clause-shallow
@@ -45,13 +43,13 @@ try_recursion-requires-clause-triable g c =
     subst (λ (xs : List Sym). IsTriable grown old.history c.args.name xs c.args.body c.as_slice-3.result.now) (sym c.as_slice-2.ensures.value)
     (subst (λ (ts : List TermId). IsTriable grown old.history c.args.name c.args.formals.items c.args.body ts) (sym c.as_slice-3.ensures.value) is)
 
-pub not_yet-requires-clause-stands : goal.not_yet-requires-clause-stands
-not_yet-requires-clause-stands g c =
+pub untaken-requires-clause-stands : goal.untaken-requires-clause-stands
+untaken-requires-clause-stands g c =
     session_stands c.args.self c.tried_measures.new.bank c.args.name c.args.formals.items c.args.body c.args.measures.now c.in_ok-tried.tried.items c.requires.stands c.tried_measures.ensures.grows
     c.requires.event c.requires.spelled c.requires.free c.requires.recursive c.in_ok-sought.sought.bank c.in_ok-sought.ensures.sought.same
 
-pub not_yet-requires-clause-mark : goal.not_yet-requires-clause-mark
-not_yet-requires-clause-mark g c =
+pub untaken-requires-clause-mark : goal.untaken-requires-clause-mark
+untaken-requires-clause-mark g c =
     mark_kept c.args.self c.tried_measures.new.bank c.args.name c.args.formals.items c.args.body c.args.measures.now c.in_ok-tried.tried.items c.requires.stands c.tried_measures.ensures.grows
     c.requires.event c.requires.spelled c.requires.free c.requires.recursive c.in_ok-sought.sought.bank c.in_ok-sought.ensures.sought.same c.args.given.mark c.requires.mark
 
@@ -107,14 +105,12 @@ returns-in-None-clause-taken g c =
     let told = subst (λ (xs : List Sym). terms_at grown tried ≡ tried_measures (texts_at old.bank xs) (map (measure_at old.bank) c.args.measures.now)) c.as_slice.ensures.value c.in_ok-tried.ensures.terms in
     let form = tree c.args.given.form.now in
     let none = kept_none grown old.history c.args.name c.args.formals.items c.args.body tried c.in_ok-sought.sought.kept c.in-None.is of.kept in
-    IfOk-weaker c.not_yet.result (IsUntaken (record { bank = c.in_ok-sought.sought.bank; history = old.history }) (not_yet form)) (TakesEvent (history_of old) form
-    (model.Defn (text_at old.bank c.args.name) (texts_at old.bank c.args.formals.items) (term_at old.bank c.args.body) (map (measure_at old.bank) c.args.measures.now)) c.args.given.logging)
-    (λ r is. left c.args.self c.tried_measures.new.bank c.args.name c.args.formals.items c.args.body c.args.measures.now c.in_ok-tried.tried.items c.requires.stands c.tried_measures.ensures.grows
-    c.requires.event c.requires.spelled c.requires.free c.requires.recursive c.in_ok-sought.sought.bank c.in_ok-sought.ensures.sought.same form c.args.given.logging r told none is) c.not_yet.ensures
+    let all = none_told c.in_ok-sought.sought.kept _ c.in-None.is of.told in
+    left c.args.self c.tried_measures.new.bank c.args.name c.args.formals.items c.args.body c.args.measures.now c.in_ok-tried.tried.items c.requires.stands c.tried_measures.ensures.grows
+    c.requires.event c.requires.spelled c.requires.free c.requires.recursive c.in_ok-sought.sought.bank c.in_ok-sought.ensures.sought.same form c.args.given.logging (trials_of c.in_ok-sought.sought.trials.items) c.untaken.result told none all c.untaken.ensures
 
 pub returns-in-None-clause-learnt : goal.returns-in-None-clause-learnt
-returns-in-None-clause-learnt g c =
-    IfOk-weaker c.not_yet.result _ (λ r. g.P.Prover.has_learnt c.try_recursion.new.prover r.session.history) (λ r kept. subst (g.P.Prover.has_learnt c.try_recursion.new.prover) (sym kept.entries) c.in_ok-sought.ensures.learnt) c.not_yet.ensures
+returns-in-None-clause-learnt g c = subst (g.P.Prover.has_learnt c.try_recursion.new.prover) (sym c.untaken.ensures.entries) c.in_ok-sought.ensures.learnt
 
 pub returns-in-Some-clause-taken : goal.returns-in-Some-clause-taken
 returns-in-Some-clause-taken g c =

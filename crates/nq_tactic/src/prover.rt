@@ -1,0 +1,78 @@
+//! The prover: the first pass, and then the search. A lemma that is in a fragment is proved there, without counting a step; another is
+//! searched for, and where the search finds a line with only the lemma, it is proved by that.
+ghost use Rattle.std.specs.Prelude.{IfOk};
+ghost use Rattle.nq_bank.specs.Content.{term_at};
+ghost use Rattle.nq_history.specs.Events.{events_at};
+ghost use Rattle.nq_fragments.specs.Fragments.{IsInNoFragment};
+ghost use Rattle.nq_kernel.specs.Growing.{WorkGrows};
+ghost use Rattle.nq_kernel.specs.Proving.{HasGround, IsFirstPass, IsTold};
+ghost use Rattle.nq_lines.specs.Lines.{IsTermIn};
+ghost use Rattle.nq_search.specs.Goals.{CanSearch};
+
+use crate::lemmas::seek_lemma;
+use nq_bank::{Bank, TermId};
+use nq_history::{Hints, History};
+use nq_kernel::{Proof, Prover, Stop, Verdict, Work, ready_histories};
+use nq_quick::quick;
+use std::alloc::AllocError;
+
+/// Proves lemmas by the first pass, and where that doesn't prove them by a search. It keeps nothing of a history.
+#[derive(Clone, Copy)]
+pub struct Searcher;
+
+impl Searcher {
+    /// The prover. It has learnt any history.
+    pub fn new() -> Searcher
+        ensures { HasGround (λ _. Unit {0}) }
+    {
+        Searcher
+    }
+}
+
+impl Prover for Searcher {
+    ghost has_learnt = { λ _ _. Unit {0} };
+
+    fn learn(&mut self, bank: &Bank, history: &History) -> Result<(), AllocError> {
+        Ok(())
+    }
+
+    fn forget(&mut self, kept: u64) {}
+
+    fn prove(
+        &mut self,
+        work: &mut Work,
+        history: &History,
+        goal: TermId,
+        hints: &Hints,
+    ) -> Result<Verdict, AllocError> {
+        ready_histories();
+        match quick(work, history, goal)? {
+            Some((way, line)) => Ok(Verdict::Proved(line, Proof::First(way))),
+            None => searched(work, history, goal, hints),
+        }
+    }
+}
+
+/// Searches for a lemma that no fragment holds.
+fn searched(
+    work: &mut Work,
+    history: &History,
+    goal: TermId,
+    hints: &Hints,
+) -> Result<Verdict, AllocError>
+    requires can { CanSearch history.now hints.now work.old }
+    requires goal { IsTermIn history.now work.old goal }
+    requires none { IsInNoFragment (events_at work.old.bank history.now) (term_at work.old.bank goal) }
+    ensures grows { WorkGrows history.now work.old work.new }
+    ensures told { IfOk result (λ v. IsTold work.new (term_at work.old.bank goal) v) }
+    ensures first { IfOk result (λ v. IsFirstPass (events_at work.old.bank history.now) (term_at work.old.bank goal) v) }
+{
+    let alloc = work.bank.alloc();
+    match seek_lemma(work, history, hints, goal) {
+        // the trace of the proof shows no goal yet
+        Ok(Some(line)) => Ok(Verdict::Proved(line, Proof::Waterfall(Vec::new(alloc)))),
+        Ok(None) => Ok(Verdict::NotYet(Vec::new(alloc))),
+        Err(Stop::OutOfSteps) => Ok(Verdict::OutOfSteps),
+        Err(Stop::Memory) => Err(AllocError),
+    }
+}
