@@ -5,6 +5,7 @@ ghost use Rattle.nq_history.specs.Events.{events_at};
 ghost use Rattle.nq_kernel.specs.Growing.{LineStands, WorkGrows, WorkStands};
 ghost use Rattle.nq_lines.specs.Lines.{IsTermIn, LineHasOnly};
 ghost use Rattle.nq_lines.specs.OwnTerms.{HasOwnTerms};
+ghost use Rattle.nq_instances.specs.Parts.{IsLine};
 ghost use Rattle.nq_arithmetic.specs.Claims.{AreOperandsIn, IsAssumptionIn};
 
 use crate::assumptions::{Assumption, literals_with};
@@ -19,6 +20,7 @@ use crate::templates::COMPARISON;
 use nq_bank::{TermId, ground};
 use nq_history::{Hints, History};
 use nq_kernel::{Stop, Work};
+use nq_lines::Fact;
 
 /// A line without the facts that it rests on, where it has only literals of the goal then.
 fn finished(
@@ -156,8 +158,26 @@ fn with_facts(
     }
 }
 
-/// The line of a goal with the facts that are found for it.
+/// The line of a goal with the facts that are found for it, with these instances of lemmas.
 fn by_facts(
+    work: &mut Work,
+    history: &History,
+    goal: &[TermId],
+    instances: &[Fact],
+) -> Result<Option<u64>, Stop>
+    requires stands { WorkStands history.now work.old }
+    requires goal { All (IsTermIn history.now work.old) goal.now }
+    requires instances { All (IsLine history.now work.old) instances.now }
+    ensures line { IfOk result (λ found. IfSome found (λ n. LineHasOnly work.new n (terms_at work.old.bank goal.now))) }
+    ensures grows { WorkGrows history.now work.old work.new }
+    ensures out { result ≡ Err Stop.OutOfSteps → work.new.counter.used ≡ work.new.counter.limit }
+{
+    let assumptions = facts_of(work, history, goal, instances)?;
+    with_facts(work, history, goal, assumptions.as_slice())
+}
+
+/// The line of a goal with facts by lemmas too, where lemmas speak of its terms.
+fn by_lemmas(
     work: &mut Work,
     history: &History,
     hints: &Hints,
@@ -171,14 +191,37 @@ fn by_facts(
     ensures out { result ≡ Err Stop.OutOfSteps → work.new.counter.used ≡ work.new.counter.limit }
 {
     let instances = instances_of(work, history, hints, goal)?;
-    let assumptions = facts_of(work, history, goal, instances.as_slice())?;
-    with_facts(work, history, goal, assumptions.as_slice())
+    if instances.len() == 0 {
+        return Ok(None);
+    }
+    by_facts(work, history, goal, instances.as_slice())
 }
 
 /// A line that has only literals of a goal, by linear arithmetic: of its literals as they are, together with facts about the
-/// terms in it, also by enabled lemmas of the history, and for an equation of two numbers by comparing them. None is found under
-/// NO-BUILT-IN-ARITH.
+/// terms in it by laws, and for an equation of two numbers by comparing them. None is found under NO-BUILT-IN-ARITH.
 pub fn arithmetic_line(
+    work: &mut Work,
+    history: &History,
+    hints: &Hints,
+    goal: &[TermId],
+) -> Result<Option<u64>, Stop>
+    requires stands { WorkStands history.now work.old }
+    requires goal { All (IsTermIn history.now work.old) goal.now }
+    ensures line { IfOk result (λ found. IfSome found (λ n. LineHasOnly work.new n (terms_at work.old.bank goal.now))) }
+    ensures grows { WorkGrows history.now work.old work.new }
+    ensures out { result ≡ Err Stop.OutOfSteps → work.new.counter.used ≡ work.new.counter.limit }
+{
+    if hints.no_arith {
+        return Ok(None);
+    }
+    match refuted(work, history, goal)? {
+        Some(line) => Ok(checked(work, history, goal, line)),
+        None => by_facts(work, history, goal, &[]),
+    }
+}
+
+/// The same, and where none is found so, with facts by enabled lemmas of the history too.
+pub fn arithmetic_line_by_lemmas(
     work: &mut Work,
     history: &History,
     hints: &Hints,
@@ -194,8 +237,8 @@ pub fn arithmetic_line(
     if hints.no_arith {
         return Ok(None);
     }
-    match refuted(work, history, goal)? {
-        Some(line) => Ok(checked(work, history, goal, line)),
-        None => by_facts(work, history, hints, goal),
+    match arithmetic_line(work, history, hints, goal)? {
+        Some(line) => Ok(Some(line)),
+        None => by_lemmas(work, history, hints, goal),
     }
 }

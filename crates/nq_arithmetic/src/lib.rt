@@ -49,5 +49,5 @@ mod resolving;
 // goals that say of a number that it is one
 mod kinds;
 
-pub use arithmetic::arithmetic_line;
+pub use arithmetic::{arithmetic_line, arithmetic_line_by_lemmas};
 pub use kinds::kind_line;

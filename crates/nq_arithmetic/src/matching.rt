@@ -167,7 +167,10 @@ fn add_by_pairs(
     ensures out { result ≡ Err Stop.OutOfSteps → work.new.counter.used ≡ work.new.counter.limit }
 {
     match instance_fact(work, history, fact, pairs)? {
-        Some(instance) => push(found, instance),
+        Some(instance) => {
+            push(found, instance)?;
+            Ok(())
+        }
         None => Ok(()),
     }
 }

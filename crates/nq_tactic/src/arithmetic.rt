@@ -7,7 +7,7 @@ ghost use Rattle.nq_lines.specs.Lines.{LineHasOnly};
 ghost use Rattle.nq_lines.specs.OwnTerms.{HasOwnTerms};
 ghost use Rattle.nq_search.specs.Goals.{IsGoalIn};
 
-use nq_arithmetic::{arithmetic_line, kind_line};
+use nq_arithmetic::{arithmetic_line_by_lemmas, kind_line};
 use nq_bank::TermId;
 use nq_history::{Hints, History};
 use nq_kernel::{Stop, Work};
@@ -37,7 +37,7 @@ fn linear_line(
     ensures grows { WorkGrows history.now work.old work.new }
     ensures out { result ≡ Err Stop.OutOfSteps → work.new.counter.used ≡ work.new.counter.limit }
 {
-    arithmetic_line(work, history, hints, goal)
+    arithmetic_line_by_lemmas(work, history, hints, goal)
 }
 
 /// The line of a goal that says of a number that it is one, or that linear arithmetic proves.

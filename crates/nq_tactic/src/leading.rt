@@ -1,8 +1,10 @@
 //! Each way that leads a goal on.
 ghost use Rattle.std.specs.Prelude.{◌≡◌, IfOk, IfSome, Err};
 ghost use Rattle.nq_bank.specs.Content.{terms_at};
+ghost use Rattle.nq_history.specs.Events.{events_at};
 ghost use Rattle.nq_kernel.specs.Growing.{WorkStands, WorkGrows};
 ghost use Rattle.nq_lines.specs.Lines.{LineHasOnly};
+ghost use Rattle.nq_lines.specs.OwnTerms.{HasOwnTerms};
 ghost use Rattle.nq_moves.specs.Ways.{IsMove};
 ghost use Rattle.nq_search.specs.Goals.{CanSearch, IsGoalIn};
 ghost use Rattle.nq_search.specs.Searching.{IsLed};
@@ -67,6 +69,7 @@ pub fn lead_refuted(
     ensures grows { WorkGrows history.now work.old work.new }
     ensures out { result ≡ Err Stop.OutOfSteps → work.new.counter.used ≡ work.new.counter.limit }
 {
+    own_terms();
     match truth_line(work, history, goal)? {
         Some(line) => Ok(Some(refuted_by(work, history, goal, line, plan))),
         None => lead_by_arithmetic(work, history, hints, goal, plan),
@@ -82,12 +85,12 @@ fn lead_by_arithmetic(
     plan: Plan,
 ) -> Result<Option<Led<Way>>, Stop>
     requires stands { WorkStands history.now work.old }
+    requires ready { HasOwnTerms (events_at work.old.bank history.now) }
     requires goal { IsGoalIn history.now work.old goal.now }
     ensures led { IfOk result (λ found. IfSome found (IsLed nexts_of IsWay history.now work.new goal.now)) }
     ensures grows { WorkGrows history.now work.old work.new }
     ensures out { result ≡ Err Stop.OutOfSteps → work.new.counter.used ≡ work.new.counter.limit }
 {
-    own_terms();
     match number_line(work, history, hints, goal)? {
         Some(line) => Ok(Some(refuted_by(work, history, goal, line, plan))),
         None => Ok(None),

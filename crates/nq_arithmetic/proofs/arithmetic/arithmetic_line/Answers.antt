@@ -3,7 +3,6 @@ use Rattle.std.specs.Prelude.{IfSome}
 use Rattle.nq_kernel.specs.Growing.{LineStands}
 use Rattle.nq_kernel.proofs.GrowingLemmas.{WorkGrows-refl, WorkGrows-trans}
 use Rattle.nq_lines.specs.Lines.{LineHasOnly}
-use Rattle.nq_lines.proofs.FactLemmas.{own_terms_grown}
 use Rattle.nq_arithmetic.proofs.Lemmas.{all_grown, goal_same, found_of}
 use Rattle.nq_arithmetic.proofs.arithmetic.arithmetic_line.Goals as goal
 
@@ -24,6 +23,3 @@ returns-in-None-clause-line c = found_of c.by_facts.result c.by_facts.new.work _
 
 pub returns-in-None-clause-grows : goal.returns-in-None-clause-grows
 returns-in-None-clause-grows c = (WorkGrows-trans c.args.history.now c.args.work.now c.refuted.new.work c.by_facts.new.work c.refuted.ensures.grows c.by_facts.ensures.grows)
-
-pub by_facts-requires-clause-ready : goal.by_facts-requires-clause-ready
-by_facts-requires-clause-ready c = own_terms_grown c.args.history.now c.args.work.now c.refuted.new.work c.refuted.ensures.grows c.requires.stands c.requires.ready

@@ -23,7 +23,7 @@ pub add_entry-requires-clause-found : goal.add_entry-requires-clause-found
 add_entry-requires-clause-found c = c.loop-place.invariant.found
 
 pub add_entry-requires-clause-terms : goal.add_entry-requires-clause-terms
-add_entry-requires-clause-terms c = all_grown c.args.history.now c.args.work.now c.loop-place.work c.requires.stands c.loop-place.invariant.grows c.as_slice-in-loop-place.result.now (subst (All (IsTermIn c.args.history.now c.args.work.now)) (sym c.as_slice-in-loop-place.ensures.value) c.in_ok-terms.ensures.terms)
+add_entry-requires-clause-terms c = all_grown c.args.history.now c.args.work.now c.loop-place.work c.requires.stands c.loop-place.invariant.grows c.as_slice.result.now (subst (All (IsTermIn c.args.history.now c.args.work.now)) (sym c.as_slice.ensures.value) c.in_ok-terms.ensures.terms)
 
 pub returns-in_err-add_entry-clause-grows : goal.returns-in_err-add_entry-clause-grows
 returns-in_err-add_entry-clause-grows c = WorkGrows-trans c.args.history.now c.args.work.now c.loop-place.work c.add_entry.new.work c.loop-place.invariant.grows c.add_entry.ensures.grows

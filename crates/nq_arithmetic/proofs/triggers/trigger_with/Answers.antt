@@ -1,8 +1,8 @@
 use Rattle.nq_kernel.proofs.GrowingLemmas.{WorkGrows-refl}
 use Rattle.nq_arithmetic.proofs.triggers.trigger_with.Goals as goal
 
-pub returns-in_err-second_of-clause-grows : goal.returns-in_err-second_of-clause-grows
-returns-in_err-second_of-clause-grows c = WorkGrows-refl c.args.history.now c.args.work.now c.requires.stands
+pub returns-in_err-second-clause-grows : goal.returns-in_err-second-clause-grows
+returns-in_err-second-clause-grows c = WorkGrows-refl c.args.history.now c.args.work.now c.requires.stands
 
 pub returns-in-None-clause-grows : goal.returns-in-None-clause-grows
 returns-in-None-clause-grows c = WorkGrows-refl c.args.history.now c.args.work.now c.requires.stands

@@ -3,6 +3,3 @@ use Rattle.nq_tactic.proofs.leading.lead_by_arithmetic.Goals as goal
 
 pub refuted_by-requires-clause-goal : goal.refuted_by-requires-clause-goal
 refuted_by-requires-clause-goal c = goal_grown c.args.history.now c.args.work.now c.number_line.new.work c.requires.stands c.number_line.ensures.grows c.args.goal.now c.requires.goal
-
-pub number_line-requires-clause-ready : goal.number_line-requires-clause-ready
-number_line-requires-clause-ready c = c.own_terms.ensures c.args.work.now.bank c.args.history.now c.requires.can.ready

@@ -1,4 +1,5 @@
 use Rattle.nq_kernel.proofs.GrowingLemmas.{WorkGrows-trans}
+use Rattle.nq_lines.proofs.FactLemmas.{own_terms_grown}
 use Rattle.nq_search.proofs.SearchingLemmas.{goal_grown}
 use Rattle.nq_tactic.proofs.leading.lead_refuted.Goals as goal
 
@@ -10,3 +11,6 @@ lead_by_arithmetic-requires-clause-goal c = goal_grown c.args.history.now c.args
 
 pub returns-in-None-clause-grows : goal.returns-in-None-clause-grows
 returns-in-None-clause-grows c = WorkGrows-trans c.args.history.now c.args.work.now c.truth_line.new.work c.lead_by_arithmetic.new.work c.truth_line.ensures.grows c.lead_by_arithmetic.ensures.grows
+
+pub lead_by_arithmetic-requires-clause-ready : goal.lead_by_arithmetic-requires-clause-ready
+lead_by_arithmetic-requires-clause-ready c = own_terms_grown c.args.history.now c.args.work.now c.truth_line.new.work c.truth_line.ensures.grows c.requires.can.stands (c.own_terms.ensures c.args.work.now.bank c.args.history.now c.requires.can.ready)
