@@ -1,3 +1,4 @@
 mod LineLemmas
 mod TacticLemmas
 mod WayLemmas
+mod KnownLemmas
