@@ -1,6 +1,6 @@
 //! Of what kind the calls of the functions of a goal are: what their definitions tell is proved by the search itself, and its line is
 //! known from then on.
-ghost use Rattle.std.specs.Prelude.{◌≡◌, ◌++◌, ◌∷◌, [], OnOk, OnErr, Err};
+ghost use Rattle.std.specs.Prelude.{◌≡◌, ◌++◌, ◌∷◌, [], IfOk, OnOk, OnErr, Err};
 ghost use Rattle.nq_bank.specs.Content.{IsNamed};
 ghost use Rattle.nq_kernel.specs.Growing.{LineStands, WorkGrows, WorkStands};
 ghost use Rattle.nq_lines.specs.Facts.{IsFact};
@@ -48,13 +48,26 @@ pub fn learn_kinds(
     ensures out { result ≡ Err Stop.OutOfSteps → work.new.counter.used ≡ work.new.counter.limit }
 {
     match functions_of(&work.bank, history, goal) {
-        Ok(names) => learn_from(work, history, hints, names.as_slice(), 0),
+        Ok(names) => learn_among(work, history, hints, names.as_slice()),
         Err(_) => Err(Stop::Memory),
     }
 }
 
-/// The same, of the functions that the events from a place on define.
-fn learn_from(
+/// The same, of these functions.
+fn learn_among(work: &mut Work, history: &History, hints: &Hints, names: &[Sym]) -> Result<(), Stop>
+    requires can { CanSearch history.now hints.now work.old }
+    ensures grows { WorkGrows history.now work.old work.new }
+    ensures out { result ≡ Err Stop.OutOfSteps → work.new.counter.used ≡ work.new.counter.limit }
+{
+    let count = history.len();
+    for place in 0..count {
+        learn_at(work, history, hints, names, place)?;
+    }
+    Ok(())
+}
+
+/// The same, of the function that the event at a place defines.
+fn learn_at(
     work: &mut Work,
     history: &History,
     hints: &Hints,
@@ -62,15 +75,15 @@ fn learn_from(
     place: u64,
 ) -> Result<(), Stop>
     requires can { CanSearch history.now hints.now work.old }
+    ensures can { IfOk result (λ _. CanSearch history.now hints.now work.new) }
     ensures grows { WorkGrows history.now work.old work.new }
     ensures out { result ≡ Err Stop.OutOfSteps → work.new.counter.used ≡ work.new.counter.limit }
 {
     ready_histories();
-    if place >= history.len() {
-        return Ok(());
+    if place < history.len() {
+        learn_named(work, history, hints, names, history.entry(place).name)?;
     }
-    learn_named(work, history, hints, names, history.entry(place).name)?;
-    learn_from(work, history, hints, names, place + 1)
+    Ok(())
 }
 
 /// Learns of what kind the calls of a function are, if it is one of these.
