@@ -135,7 +135,7 @@ pub fn matched_line(
 }
 
 /// Adds the instance of a line.
-fn instance_line(
+pub fn instance_line(
     work: &mut Work,
     history: &History,
     line: u64,
