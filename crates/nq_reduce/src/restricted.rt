@@ -4,8 +4,8 @@
 //! base, and where it is made of its parts. Of the default the recognizer holds.
 ghost use Rattle.std.specs.Prelude.{◌≡◌, ◌∷◌, IfOk, IfSome, Err};
 ghost use Rattle.nq_logic.specs.Words.{not_term};
-ghost use Rattle.nq_bank.specs.Content.{IsIdOf, IsNamed, Stands, term_at, terms_at};
-ghost use Rattle.nq_kernel.specs.Growing.{WorkGrows, WorkStands};
+ghost use Rattle.nq_bank.specs.Content.{IsIdOf, IsNamed, term_at, terms_at};
+ghost use Rattle.nq_kernel.specs.Growing.{WorkGrows};
 ghost use Rattle.nq_lines.specs.Lines.{IsTermIn};
 ghost use Rattle.nq_reduce.specs.Clauses.{AreLiterals, LineIsIn};
 ghost use Rattle.nq_reduce.specs.Held.{IsHeld};
@@ -13,7 +13,7 @@ ghost use Rattle.nq_reduce.specs.Rewriting.{CanRewrite, IsArgument, IsKnown, IsR
 
 use crate::branches::with_more;
 use crate::cases::led_to;
-use crate::clauses::{last_of, literals_of};
+use crate::clauses::{last_literal, literals_of};
 use crate::congruence::{argument_of, congruent};
 use crate::held::rewritten_by;
 use crate::kinds::{constructor_at, restricted_part};
@@ -311,17 +311,6 @@ fn default_by_row(
         Some(line) => last_literal(work, history, line),
         None => Ok(None),
     }
-}
-
-/// The last literal of a line.
-fn last_literal(work: &Work, history: &History, line: u64) -> Result<Option<TermId>, Stop>
-    requires stands { WorkStands history.now work.now }
-    requires line { LineIsIn history.now work.now line }
-    ensures literal { IfOk result (λ found. IfSome found (IsTermIn history.now work.now)) }
-    ensures memory { result ≡ Err Stop.OutOfSteps → ⊥ }
-{
-    let literals = literals_of(work, history, line)?;
-    Ok(last_of(work, history, literals.as_slice()))
 }
 
 /// The line of the equation, since each case of an object leads to it.
