@@ -71,7 +71,7 @@ fn leaf_of(work: &Work, history: &History, g: Sym) -> Leaves
 }
 
 /// What the leaves of a term tell.
-fn leaves(work: &Work, history: &History, f: Sym, t: TermId) -> Leaves
+fn leaves_of(work: &Work, history: &History, f: Sym, t: TermId) -> Leaves
     requires stands { WorkStands history.now work.now }
     requires term { Stands work.now.bank t }
 {
@@ -83,8 +83,8 @@ fn leaves(work: &Work, history: &History, f: Sym, t: TermId) -> Leaves
             if g.0 == f.0 {
                 Leaves::Own
             } else if g.0 == ground::IF.0 && arguments.len() == 3 {
-                let first = leaves(work, history, f, arguments[1]);
-                let second = leaves(work, history, f, arguments[2]);
+                let first = leaves_of(work, history, f, arguments[1]);
+                let second = leaves_of(work, history, f, arguments[2]);
                 both(first, second)
             } else {
                 leaf_of(work, history, g)
@@ -127,7 +127,7 @@ fn guessed_kind(work: &Work, history: &History, f: Sym) -> Option<Sym>
         return Some(ground::NUMBERP);
     }
     let body = body_of(&work.bank, history, f)?;
-    match leaves(work, history, f, body) {
+    match leaves_of(work, history, f, body) {
         Leaves::Own => None,
         Leaves::Of(r) => Some(r),
         Leaves::Mixed => None,
