@@ -5,3 +5,4 @@ pub mod ClauseLemmas
 pub mod DroppingLemmas
 pub mod ValueLemmas
 pub mod StepLemmas
+pub mod ShellLemmas

@@ -111,6 +111,17 @@ pub fn last_of(work: &Work, history: &History, literals: &[TermId]) -> Option<Te
     Some(literals[count - 1])
 }
 
+/// The last literal of a line.
+pub fn last_literal(work: &Work, history: &History, line: u64) -> Result<Option<TermId>, Stop>
+    requires stands { WorkStands history.now work.now }
+    requires line { LineIsIn history.now work.now line }
+    ensures literal { IfOk result (λ found. IfSome found (IsTermIn history.now work.now)) }
+    ensures memory { result ≡ Err Stop.OutOfSteps → ⊥ }
+{
+    let literals = literals_of(work, history, line)?;
+    Ok(last_of(work, history, literals.as_slice()))
+}
+
 /// Adds the instance of a line that takes the left side of a literal to a term, if there is one.
 pub fn matched_line(
     work: &mut Work,
@@ -135,7 +146,7 @@ pub fn matched_line(
 }
 
 /// Adds the instance of a line.
-fn instance_line(
+pub fn instance_line(
     work: &mut Work,
     history: &History,
     line: u64,

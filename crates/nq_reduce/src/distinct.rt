@@ -19,7 +19,8 @@ use crate::equations::by_sides;
 use crate::following::follow;
 use crate::kinds::{head_of, is_truth_value};
 use crate::made::made_fact;
-use crate::recognizing::{by_kind, kind_of, kind_told};
+use crate::moved::{Last, last_step};
+use crate::recognizing::{kind_of, kind_told};
 use crate::results::{Rewritten, unchanged};
 use crate::values::is_falsity;
 use nq_bank::{Bank, TermId, ground};
@@ -198,18 +199,19 @@ fn lost_under(
     ensures grows { WorkGrows history.now work.old work.new }
     ensures out { result ≡ Err Stop.OutOfSteps → work.new.counter.used ≡ work.new.counter.limit }
 {
-    let new = lost_kind(work, history, all, t, a, fact.term)?;
+    let new = lost_kind(work, history, all, t, a, fact.term, Last::Kind)?;
     by_contradiction(work, history, assumed, t, fact, new)
 }
 
-/// What a recognizer of one side comes to where the equation is assumed.
-fn lost_kind(
+/// What a call on one side comes to where the equation is assumed, by this last step.
+pub fn lost_kind(
     work: &mut Work,
     history: &History,
     assumed: &[TermId],
     e: TermId,
     a: TermId,
     t: TermId,
+    last: Last,
 ) -> Result<Rewritten, Stop>
     requires can { CanRewrite history.now work.old assumed.now t }
     requires side { IsTermIn history.now work.old a }
@@ -219,7 +221,7 @@ fn lost_kind(
     ensures out { result ≡ Err Stop.OutOfSteps → work.new.counter.used ≡ work.new.counter.limit }
 {
     let line = opposites(work, history, e)?;
-    lost_by_equation(work, history, assumed, Fact { term: e, line }, a, t)
+    lost_by_equation(work, history, assumed, Fact { term: e, line }, a, t, last)
 }
 
 /// The same, by the line of the equation.
@@ -230,6 +232,7 @@ fn lost_by_equation(
     fact: Fact,
     a: TermId,
     t: TermId,
+    last: Last,
 ) -> Result<Rewritten, Stop>
     requires can { CanRewrite history.now work.old assumed.now t }
     requires side { IsTermIn history.now work.old a }
@@ -239,7 +242,7 @@ fn lost_by_equation(
     ensures out { result ≡ Err Stop.OutOfSteps → work.new.counter.used ≡ work.new.counter.limit }
 {
     let other = by_sides(work, history, assumed, fact, a)?;
-    lost_by_side(work, history, assumed, a, other, t)
+    lost_by_side(work, history, assumed, a, other, t, last)
 }
 
 /// The same, by what the side is rewritten to.
@@ -250,6 +253,7 @@ fn lost_by_side(
     a: TermId,
     other: Rewritten,
     t: TermId,
+    last: Last,
 ) -> Result<Rewritten, Stop>
     requires can { CanRewrite history.now work.old assumed.now t }
     requires side { IsTermIn history.now work.old a }
@@ -262,7 +266,7 @@ fn lost_by_side(
         Some(x) => {
             if is_same(x, a) {
                 let moved = congruent(work, history, assumed, t, 1, x, other)?;
-                lost_after(work, history, assumed, t, moved)
+                lost_after(work, history, assumed, t, moved, last)
             } else {
                 Ok(unchanged(t))
             }
@@ -271,13 +275,14 @@ fn lost_by_side(
     }
 }
 
-/// What a recognizer of the other side comes to.
+/// What a call on the other side comes to.
 fn lost_after(
     work: &mut Work,
     history: &History,
     assumed: &[TermId],
     t: TermId,
     moved: Rewritten,
+    last: Last,
 ) -> Result<Rewritten, Stop>
     requires can { CanRewrite history.now work.old assumed.now t }
     requires moved { IsRewritten history.now work.old (terms_at work.old.bank assumed.now) (term_at work.old.bank t) moved }
@@ -285,8 +290,8 @@ fn lost_after(
     ensures grows { WorkGrows history.now work.old work.new }
     ensures out { result ≡ Err Stop.OutOfSteps → work.new.counter.used ≡ work.new.counter.limit }
 {
-    let last = by_kind(work, history, assumed, moved.term)?;
-    follow(work, history, assumed, t, moved, last)
+    let rest = last_step(work, history, assumed, last, moved.term)?;
+    follow(work, history, assumed, t, moved, rest)
 }
 
 /// A term is F, where what a line shows comes to F if it is assumed.

@@ -164,3 +164,42 @@ pub fn is_truth_value(head: Option<Sym>) -> bool {
         None => false,
     }
 }
+
+/// Must a part be of the kind of this recognizer, and of no other?
+fn is_restricted(part: &Part, r: Sym) -> bool {
+    match part.recognizers.as_slice() {
+        [only] => part.one_of && only.0 == r.0,
+        [] => false,
+        _ => false,
+    }
+}
+
+/// Must the part of this number of the shell at a place be of the kind of this recognizer?
+fn is_restricted_at(history: &History, place: usize, number: u64, r: Sym) -> bool {
+    let shells = history.shells();
+    if place >= shells.len() {
+        return false;
+    }
+    let mut count = 1u64;
+    for part in shells[place].parts.as_slice() {
+        if count == number {
+            return is_restricted(part, r);
+        }
+        count = count.saturating_add(1);
+    }
+    false
+}
+
+/// The shell and the number of the part of which a term says that it is of the kind that it must be of.
+pub fn restricted_part(bank: &Bank, history: &History, t: TermId) -> Option<(usize, u64)>
+    requires { Stands bank.now t }
+{
+    let (r, a) = one_argument(bank, t)?;
+    let (f, _) = one_argument(bank, a)?;
+    let (place, number) = taken_part(history, f)?;
+    if is_restricted_at(history, place, number, r) {
+        Some((place, number))
+    } else {
+        None
+    }
+}

@@ -50,11 +50,17 @@ mod trials;
 // the kinds of objects just made
 mod made;
 
+// an object as made of its parts, and what each case of it leads to
+mod cases;
+mod moved;
+mod parted;
+
 // the mechanisms
 mod bases;
 mod distinct;
 mod equations;
 mod recognizing;
+mod restricted;
 mod shells;
 mod truths;
 
@@ -68,6 +74,6 @@ pub use following::follow;
 pub use held::{conclusion_for, opening_of, part_for, relieved, rewritten_by, rule_for};
 pub use knowledge::{Known, known_truth};
 pub use reducing::reduce_call;
+pub use restricted::settled;
 pub use results::{Rewritten, unchanged};
-pub use settling::settled;
 pub use whole::join;

@@ -1,8 +1,10 @@
 //! Rewriting by rows of the tables of axioms whose other literals are known to be false.
 ghost use Rattle.std.specs.Prelude.{◌≡◌, All, IfOk, IfSome, Err};
 ghost use Rattle.nq_bank.specs.Content.{IsNamed, term_at, terms_at};
-ghost use Rattle.nq_kernel.specs.Growing.{WorkGrows};
+ghost use Rattle.nq_history.specs.Events.{events_at};
+ghost use Rattle.nq_kernel.specs.Growing.{WorkGrows, WorkStands};
 ghost use Rattle.nq_lines.specs.Lines.{IsTermIn};
+ghost use Rattle.nq_lines.specs.OwnTerms.{HasOwnTerms};
 ghost use Rattle.nq_reduce.specs.Clauses.{AreLiterals, LineIsIn};
 ghost use Rattle.nq_reduce.specs.Held.{IsHeld};
 ghost use Rattle.nq_reduce.specs.Rewriting.{CanRewrite, IsRewritten};
@@ -36,6 +38,52 @@ fn chosen_of(work: &Work, history: &History, literals: &[TermId], chosen: Chosen
     }
 }
 
+/// Adds the instance of a row whose chosen literal has this term as its left side, if there is one.
+pub fn row_instance(
+    work: &mut Work,
+    history: &History,
+    name: Sym,
+    row: u64,
+    part: u64,
+    chosen: Chosen,
+    t: TermId,
+) -> Result<Option<u64>, Stop>
+    requires stands { WorkStands history.now work.old }
+    requires ready { HasOwnTerms (events_at work.old.bank history.now) }
+    requires name { IsNamed work.old.bank name }
+    requires term { IsTermIn history.now work.old t }
+    ensures line { IfOk result (λ found. IfSome found (LineIsIn history.now work.new)) }
+    ensures grows { WorkGrows history.now work.old work.new }
+    ensures out { result ≡ Err Stop.OutOfSteps → work.new.counter.used ≡ work.new.counter.limit }
+{
+    match row_of(work, history, name, row, part)? {
+        Some(line) => line_instance(work, history, line, chosen, t),
+        None => Ok(None),
+    }
+}
+
+/// The same, by the line of the row.
+fn line_instance(
+    work: &mut Work,
+    history: &History,
+    line: u64,
+    chosen: Chosen,
+    t: TermId,
+) -> Result<Option<u64>, Stop>
+    requires stands { WorkStands history.now work.old }
+    requires line { LineIsIn history.now work.old line }
+    requires term { IsTermIn history.now work.old t }
+    ensures line { IfOk result (λ found. IfSome found (LineIsIn history.now work.new)) }
+    ensures grows { WorkGrows history.now work.old work.new }
+    ensures out { result ≡ Err Stop.OutOfSteps → work.new.counter.used ≡ work.new.counter.limit }
+{
+    let literals = literals_of(work, history, line)?;
+    match chosen_of(work, history, literals.as_slice(), chosen) {
+        Some(literal) => matched_line(work, history, line, literal, t),
+        None => Ok(None),
+    }
+}
+
 /// What a row makes of a term: its chosen literal is an equation whose left side is the term, or the NOT of the term, and each
 /// other literal is known to be false.
 pub fn by_row(
@@ -54,73 +102,8 @@ pub fn by_row(
     ensures grows { WorkGrows history.now work.old work.new }
     ensures out { result ≡ Err Stop.OutOfSteps → work.new.counter.used ≡ work.new.counter.limit }
 {
-    match row_of(work, history, name, row, part)? {
-        Some(line) => by_line(work, history, assumed, line, chosen, t),
-        None => Ok(unchanged(t)),
-    }
-}
-
-/// The same, by the line of the row.
-fn by_line(
-    work: &mut Work,
-    history: &History,
-    assumed: &[TermId],
-    line: u64,
-    chosen: Chosen,
-    t: TermId,
-) -> Result<Rewritten, Stop>
-    requires can { CanRewrite history.now work.old assumed.now t }
-    requires line { LineIsIn history.now work.old line }
-    ensures ok { IfOk result (λ r. IsRewritten history.now work.new (terms_at work.old.bank assumed.now) (term_at work.old.bank t) r) }
-    ensures grows { WorkGrows history.now work.old work.new }
-    ensures out { result ≡ Err Stop.OutOfSteps → work.new.counter.used ≡ work.new.counter.limit }
-{
-    let literals = literals_of(work, history, line)?;
-    by_literals(work, history, assumed, line, literals.as_slice(), chosen, t)
-}
-
-/// The same, where its literals are known.
-fn by_literals(
-    work: &mut Work,
-    history: &History,
-    assumed: &[TermId],
-    line: u64,
-    literals: &[TermId],
-    chosen: Chosen,
-    t: TermId,
-) -> Result<Rewritten, Stop>
-    requires can { CanRewrite history.now work.old assumed.now t }
-    requires line { LineIsIn history.now work.old line }
-    requires literals { AreLiterals history.now work.old line literals.now }
-    ensures ok { IfOk result (λ r. IsRewritten history.now work.new (terms_at work.old.bank assumed.now) (term_at work.old.bank t) r) }
-    ensures grows { WorkGrows history.now work.old work.new }
-    ensures out { result ≡ Err Stop.OutOfSteps → work.new.counter.used ≡ work.new.counter.limit }
-{
-    match chosen_of(work, history, literals, chosen) {
-        Some(literal) => by_literal(work, history, assumed, line, literal, chosen, t),
-        None => Ok(unchanged(t)),
-    }
-}
-
-/// The same, by its chosen literal.
-fn by_literal(
-    work: &mut Work,
-    history: &History,
-    assumed: &[TermId],
-    line: u64,
-    literal: TermId,
-    chosen: Chosen,
-    t: TermId,
-) -> Result<Rewritten, Stop>
-    requires can { CanRewrite history.now work.old assumed.now t }
-    requires line { LineIsIn history.now work.old line }
-    requires literal { IsTermIn history.now work.old literal }
-    ensures ok { IfOk result (λ r. IsRewritten history.now work.new (terms_at work.old.bank assumed.now) (term_at work.old.bank t) r) }
-    ensures grows { WorkGrows history.now work.old work.new }
-    ensures out { result ≡ Err Stop.OutOfSteps → work.new.counter.used ≡ work.new.counter.limit }
-{
-    match matched_line(work, history, line, literal, t)? {
-        Some(made) => by_instance(work, history, assumed, made, chosen, t),
+    match row_instance(work, history, name, row, part, chosen, t)? {
+        Some(line) => by_instance(work, history, assumed, line, chosen, t),
         None => Ok(unchanged(t)),
     }
 }
@@ -147,7 +130,7 @@ fn by_instance(
 }
 
 /// The chosen literal of a line, where each other one is known to be false.
-fn shown_by(
+pub fn shown_by(
     work: &mut Work,
     history: &History,
     assumed: &[TermId],

@@ -152,7 +152,7 @@ pub fn known_by_value(
 }
 
 /// The same, by what is known of the value.
-fn value_told(
+pub fn value_told(
     work: &mut Work,
     history: &History,
     assumed: &[TermId],

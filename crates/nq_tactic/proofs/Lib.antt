@@ -2,3 +2,4 @@ mod LineLemmas
 mod ProverLemmas
 mod TacticLemmas
 mod WayLemmas
+mod KnownLemmas

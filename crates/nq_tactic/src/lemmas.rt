@@ -8,6 +8,7 @@ ghost use Rattle.nq_lines.specs.Lines.{IsTermIn};
 ghost use Rattle.nq_search.specs.Goals.{CanSearch, IsGoalIn};
 ghost use Rattle.nq_search.specs.Searching.{IsFound};
 
+use crate::kinds::learn_kinds;
 use crate::order::{INDUCTIONS, TURNS};
 use crate::tactic::Waterfall;
 use crate::uses::used;
@@ -41,8 +42,26 @@ fn is_exhausted(work: &Work, before: u64) -> bool {
     used < work.counter.limit() / 64
 }
 
-/// Seeks a line of a goal: first with few steps, and then with all.
+/// Seeks a line of a goal, where it is known first of what kind the calls of its functions are.
 fn seek_rounds(
+    work: &mut Work,
+    history: &History,
+    hints: &Hints,
+    goal: &[TermId],
+) -> Result<Option<u64>, Stop>
+    requires can { CanSearch history.now hints.now work.old }
+    requires goal { IsGoalIn history.now work.old goal.now }
+    ensures found { IfOk result (IsFound work.new (terms_at work.old.bank goal.now)) }
+    ensures grows { WorkGrows history.now work.old work.new }
+    ensures out { result ≡ Err Stop.OutOfSteps → work.new.counter.used ≡ work.new.counter.limit }
+{
+    ready_histories();
+    learn_kinds(work, history, hints, goal)?;
+    seek_twice(work, history, hints, goal)
+}
+
+/// Seeks a line of a goal: first with few steps, and then with all.
+fn seek_twice(
     work: &mut Work,
     history: &History,
     hints: &Hints,

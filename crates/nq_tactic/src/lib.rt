@@ -33,6 +33,10 @@ mod uses;
 // eliminations
 mod eliminating;
 
+// of what kind the calls of functions are
+mod guessing;
+mod kinds;
+
 // lemmas
 mod lemmas;
 

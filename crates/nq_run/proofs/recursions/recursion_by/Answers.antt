@@ -23,7 +23,7 @@ block_of-requires-clause-closing c =
 
 pub told_trials-requires : goal.told_trials-requires
 told_trials-requires c =
-    subst (λ (ls : List Left). All (LeftStands c.args.work.bank) ls) (sym c.as_slice.ensures.value) (none_told c.args.measured.found _ c.in-None.is c.requires.left)
+    record { left = subst (λ (ls : List Left). All (LeftStands c.args.work.bank) ls) (sym c.as_slice.ensures.value) (none_told c.args.measured.found _ c.in-None.is c.requires.left) }
 
 pub returns-in-None-clause-trials : goal.returns-in-None-clause-trials
 returns-in-None-clause-trials c = none_so c.args.measured.found _ (c.in_ok-trials-in-None.ensures ∙ ap (trials_at c.args.work.bank) c.as_slice.ensures.value)

@@ -1,0 +1,259 @@
+//! Of what kind the calls of the functions of a goal are: what their definitions tell is proved by the search itself, and its line is
+//! known from then on.
+ghost use Rattle.std.specs.Prelude.{◌≡◌, ◌++◌, ◌∷◌, [], IfOk, OnOk, OnErr, Err};
+ghost use Rattle.nq_bank.specs.Content.{IsNamed};
+ghost use Rattle.nq_kernel.specs.Growing.{LineStands, WorkGrows, WorkStands};
+ghost use Rattle.nq_lines.specs.Facts.{IsFact};
+ghost use Rattle.nq_lines.specs.Lines.{IsTermIn};
+ghost use Rattle.nq_search.specs.Goals.{CanSearch};
+
+use crate::guessing::{functions_of, guessed_place, has_name, recognizer_at};
+use crate::order::TURNS;
+use crate::tactic::Waterfall;
+use nq_bank::{Sym, TermId};
+use nq_history::{Hints, History};
+use nq_kernel::{Prescription, Stop, Work, ready_histories};
+use nq_lines::{Fact, row_fact, sides_of};
+use nq_ready::own_terms;
+use nq_rewrite::{kind_line, one_call};
+use nq_search::{Plan, seek};
+
+/// Into how many parts the steps are divided of which the search for one kind gets one.
+const KIND_PART: u64 = 200;
+
+/// The plan of the search for a kind.
+fn plan_of_kind(work: &Work) -> Plan {
+    let used = work.counter.used();
+    Plan {
+        levels: 20,
+        inductions: 1,
+        turns: TURNS,
+        whole: false,
+        simplified: false,
+        inducted: false,
+        eliminations: 0,
+        until: used.saturating_add(work.counter.limit() / KIND_PART),
+    }
+}
+
+/// Learns of what kind the calls of the functions of a goal are, the oldest first.
+pub fn learn_kinds(
+    work: &mut Work,
+    history: &History,
+    hints: &Hints,
+    goal: &[TermId],
+) -> Result<(), Stop>
+    requires can { CanSearch history.now hints.now work.old }
+    ensures grows { WorkGrows history.now work.old work.new }
+    ensures out { result ≡ Err Stop.OutOfSteps → work.new.counter.used ≡ work.new.counter.limit }
+{
+    match functions_of(&work.bank, history, goal) {
+        Ok(names) => learn_among(work, history, hints, names.as_slice()),
+        Err(_) => Err(Stop::Memory),
+    }
+}
+
+/// The same, of these functions.
+fn learn_among(work: &mut Work, history: &History, hints: &Hints, names: &[Sym]) -> Result<(), Stop>
+    requires can { CanSearch history.now hints.now work.old }
+    ensures grows { WorkGrows history.now work.old work.new }
+    ensures out { result ≡ Err Stop.OutOfSteps → work.new.counter.used ≡ work.new.counter.limit }
+{
+    let count = history.len();
+    for place in 0..count {
+        learn_at(work, history, hints, names, place)?;
+    }
+    Ok(())
+}
+
+/// The same, of the function that the event at a place defines.
+fn learn_at(
+    work: &mut Work,
+    history: &History,
+    hints: &Hints,
+    names: &[Sym],
+    place: u64,
+) -> Result<(), Stop>
+    requires can { CanSearch history.now hints.now work.old }
+    ensures can { IfOk result (λ _. CanSearch history.now hints.now work.new) }
+    ensures grows { WorkGrows history.now work.old work.new }
+    ensures out { result ≡ Err Stop.OutOfSteps → work.new.counter.used ≡ work.new.counter.limit }
+{
+    ready_histories();
+    if place < history.len() {
+        learn_named(work, history, hints, names, history.entry(place).name)?;
+    }
+    Ok(())
+}
+
+/// Learns of what kind the calls of a function are, if it is one of these.
+fn learn_named(
+    work: &mut Work,
+    history: &History,
+    hints: &Hints,
+    names: &[Sym],
+    f: Sym,
+) -> Result<(), Stop>
+    requires can { CanSearch history.now hints.now work.old }
+    requires function { IsNamed work.old.bank f }
+    ensures grows { WorkGrows history.now work.old work.new }
+    ensures out { result ≡ Err Stop.OutOfSteps → work.new.counter.used ≡ work.new.counter.limit }
+{
+    if is_new(work, history, names, f) {
+        learn_kind(work, history, hints, f)
+    } else {
+        Ok(())
+    }
+}
+
+/// Is a function one of these, and is nothing known yet of the kind of its calls?
+fn is_new(work: &Work, history: &History, names: &[Sym], f: Sym) -> bool
+    requires { WorkStands history.now work.now }
+{
+    has_name(names, f) && kind_line(work, history, f).is_none()
+}
+
+/// Learns of what kind the calls of a function are, if its definition tells it.
+fn learn_kind(work: &mut Work, history: &History, hints: &Hints, f: Sym) -> Result<(), Stop>
+    requires can { CanSearch history.now hints.now work.old }
+    requires function { IsNamed work.old.bank f }
+    ensures grows { WorkGrows history.now work.old work.new }
+    ensures out { result ≡ Err Stop.OutOfSteps → work.new.counter.used ≡ work.new.counter.limit }
+{
+    match guessed_place(work, history, f) {
+        Some(place) => learn_placed(work, history, hints, f, place),
+        None => Ok(()),
+    }
+}
+
+/// The same, where they may be of the kind of the shell at a place.
+fn learn_placed(
+    work: &mut Work,
+    history: &History,
+    hints: &Hints,
+    f: Sym,
+    place: usize,
+) -> Result<(), Stop>
+    requires can { CanSearch history.now hints.now work.old }
+    requires function { IsNamed work.old.bank f }
+    ensures grows { WorkGrows history.now work.old work.new }
+    ensures out { result ≡ Err Stop.OutOfSteps → work.new.counter.used ≡ work.new.counter.limit }
+{
+    match recognizer_at(work, history, place) {
+        Some(r) => learn_guessed(work, history, hints, f, r),
+        None => Ok(()),
+    }
+}
+
+/// The same, where this recognizer may hold of them.
+fn learn_guessed(
+    work: &mut Work,
+    history: &History,
+    hints: &Hints,
+    f: Sym,
+    r: Sym,
+) -> Result<(), Stop>
+    requires can { CanSearch history.now hints.now work.old }
+    requires function { IsNamed work.old.bank f }
+    requires recognizer { IsNamed work.old.bank r }
+    ensures grows { WorkGrows history.now work.old work.new }
+    ensures out { result ≡ Err Stop.OutOfSteps → work.new.counter.used ≡ work.new.counter.limit }
+{
+    own_terms();
+    ready_histories();
+    match row_fact(work, history, f)? {
+        Some(definition) => learn_defined(work, history, hints, f, r, definition),
+        None => Ok(()),
+    }
+}
+
+/// The same, by the definition of the function.
+fn learn_defined(
+    work: &mut Work,
+    history: &History,
+    hints: &Hints,
+    f: Sym,
+    r: Sym,
+    definition: Fact,
+) -> Result<(), Stop>
+    requires can { CanSearch history.now hints.now work.old }
+    requires function { IsNamed work.old.bank f }
+    requires recognizer { IsNamed work.old.bank r }
+    requires definition { IsFact history.now work.old definition }
+    ensures grows { WorkGrows history.now work.old work.new }
+    ensures out { result ≡ Err Stop.OutOfSteps → work.new.counter.used ≡ work.new.counter.limit }
+{
+    match sides_of(work, history, definition.term) {
+        Some(sides) => learn_call(work, history, hints, f, r, sides.left),
+        None => Ok(()),
+    }
+}
+
+/// The same, by the call of the function on its formals.
+fn learn_call(
+    work: &mut Work,
+    history: &History,
+    hints: &Hints,
+    f: Sym,
+    r: Sym,
+    call: TermId,
+) -> Result<(), Stop>
+    requires can { CanSearch history.now hints.now work.old }
+    requires function { IsNamed work.old.bank f }
+    requires recognizer { IsNamed work.old.bank r }
+    requires call { IsTermIn history.now work.old call }
+    ensures grows { WorkGrows history.now work.old work.new }
+    ensures out { result ≡ Err Stop.OutOfSteps → work.new.counter.used ≡ work.new.counter.limit }
+{
+    ready_histories();
+    match one_call(work, history, r, call)? {
+        Some(t) => learn_told(work, history, hints, f, t),
+        None => Ok(()),
+    }
+}
+
+/// The same, where this goal says it.
+fn learn_told(
+    work: &mut Work,
+    history: &History,
+    hints: &Hints,
+    f: Sym,
+    goal: TermId,
+) -> Result<(), Stop>
+    requires can { CanSearch history.now hints.now work.old }
+    requires function { IsNamed work.old.bank f }
+    requires goal { IsTermIn history.now work.old goal }
+    ensures grows { WorkGrows history.now work.old work.new }
+    ensures out { result ≡ Err Stop.OutOfSteps → work.new.counter.used ≡ work.new.counter.limit }
+{
+    let plan = plan_of_kind(work);
+    match seek(work, &mut Waterfall::new(7), history, hints, plan, &[goal])? {
+        Some(line) => remember(work, history, f, line),
+        None => Ok(()),
+    }
+}
+
+/// Adds what is known of a function.
+fn push_known(known: &mut Vec<Prescription>, more: Prescription) -> Result<(), Stop>
+    ensures ok { OnOk result (known.new.items ≡ known.old.items ++ more ∷ []) }
+    ensures err { OnErr result (known.new.items ≡ known.old.items) }
+    ensures memory { result ≡ Err Stop.OutOfSteps → ⊥ }
+{
+    match known.push(more) {
+        Ok(()) => Ok(()),
+        Err(_) => Err(Stop::Memory),
+    }
+}
+
+/// Keeps the number of the line that shows of what kind the calls of a function are.
+fn remember(work: &mut Work, history: &History, f: Sym, line: u64) -> Result<(), Stop>
+    requires stands { WorkStands history.now work.old }
+    requires function { IsNamed work.old.bank f }
+    requires line { LineStands work.old line }
+    ensures grows { WorkGrows history.now work.old work.new }
+    ensures memory { result ≡ Err Stop.OutOfSteps → ⊥ }
+{
+    let _ = history.len();
+    push_known(&mut work.known, Prescription { function: f, line })?;
+    Ok(())
+}
