@@ -1,7 +1,7 @@
-"""Prints the facts of arithmetic that the crate nq_arithmetic adds to a goal: their tables of rule lines, the list of them, and
-the answers that say that each table is allowed. They are searched for here.
+"""Prints the laws of numbers of which linear arithmetic makes facts: their tables of rule lines, the list of them, and the answers
+that say that each table is allowed. They are searched for here.
 
-    python3 tools/facts.py crates/nq_arithmetic
+    python3 tools/facts.py crates/nq_number_laws
 """
 import os, sys
 sys.dont_write_bytecode = True
@@ -75,14 +75,17 @@ def numbers():
     yield "sum_is_number", named["sum_is_number"]
     how = dict(lemmas=NUMBERS + [named["sum_is_number"]], rules=[named["product_at_zero"], named["product_at_positive"]])
     yield "product_is_number", by_size("(NUMBERP (TIMES X Y))", "X", {}, [], [], **how)
-    how = dict(lemmas=NUMBERS + [named["not_zero_is_number"]], opens=[R("(DIFFERENCE X Y)")])
-    yield "difference_is_number", by_both("(NUMBERP (DIFFERENCE X Y))", **how)
+    yield "difference_is_number", difference_is_number()
     yield "quotient_is_number", quotient_is_number()
     yield "size_is_number", A("COUNT")
     yield "one_more_is_number", L.inst(A("ADD1", 2), {"X1": "X"})
     yield "one_less_is_number", SUB1_NUMBER
     yield "fix_is_number", named["fix_is_number"]
     yield "zero_is_number", named["zero_is_number"]
+    yield "positive_is_number", L.cut(named["not_zero_is_number"], zero_is_no_more(), ZX)
+
+def difference_is_number():
+    return by_both("(NUMBERP (DIFFERENCE X Y))", lemmas=NUMBERS + [named["not_zero_is_number"]], opens=[R("(DIFFERENCE X Y)")])
 
 # comparisons
 
@@ -102,6 +105,14 @@ def numbers_compare():
     line = by_both(claim, lemmas=lemmas, rules=LESS)
     return as_clause(line, "(LESSP X Y) | (LESSP Y X) | (NOT (NUMBERP X)) | (NOT (NUMBERP Y)) | (EQUAL X Y)")
 
+def less_is_truth():
+    line = by_both("(IF (LESSP X Y) (EQUAL (LESSP X Y) T) T)", lemmas=ENDS, rules=[LESS[0], LESS[2], LESS[1]])
+    return as_clause(line, "(NOT (LESSP X Y)) | (EQUAL (LESSP X Y) T)")
+
+def fix_is_the_same(text):
+    zeros = FIXES + [LESS[0], named["nothing_less_than_zero"]]
+    return cases([R(text)], ["(ZEROP X)"], lemmas=ENDS + [IRREFLEXIVE], rules=zeros)
+
 def ordinal_less():
     """the equation of ORD-LESSP and LESSP of numbers"""
     line = named["ordinal_less_is_less"]
@@ -118,6 +129,9 @@ def comparisons():
     number = L.cut(more, named["zero_or_not_number"], ZX)
     yield "number_is_more", number
     y = L.inst(number, {"X": "Y"})
+    yield "less_is_truth", less_is_truth()
+    yield "fix_is_enough", fix_is_the_same("(NOT (LESSP (FIX X) X))")
+    yield "fix_is_no_more", fix_is_the_same("(NOT (LESSP X (FIX X)))")
     yield "number_is_more_turned", L.symmetric(y, place(y, R("(EQUAL Y 0)")))
     less, below = R("(LESSP X Y)"), R("(ORD-LESSP X Y)")
     same = ordinal_less()
@@ -169,12 +183,13 @@ def sizes():
         none = L.forward(L.refl(R("(COUNT (%s X))" % accessor)), 1, (2, 1), A("CONS", 8, part), ZERO)
         yield "no_" + name, L.forward(none, place(none, first_equation(none)), (2,), named["size_of_zero"], ZERO)
     yield "size_of_number", size_of_number()
+    yield "size_of_positive", L.cut(L.cut(named["not_zero_is_number"], zero_is_no_more(), ZX), size_of_number(), R("(NUMBERP X)"))
     yield "size_of_pair", found("(EQUAL (COUNT (CONS X Y)) (ADD1 (PLUS (COUNT X) (COUNT Y))))", lemmas=ENDS, rules=[L.inst(A("CONS", 14), {"X1": "X", "X2": "Y"})])
     yield "product_of_positive", under_more(named["product_at_positive"])
 
 TOPICS = [numbers, comparisons, differences, sizes]
 
-LAWS = """//! The laws of arithmetic that show facts. They are printed.
+LAWS = """//! The laws of numbers that show facts. They are printed.
 ghost use Rattle.std.specs.Prelude.{◌∷◌, [], IsSome};
 ghost use Rattle.nq_replay.specs.LawClauses.{size_falls_clause};
 ghost use Rattle.nq_replay.specs.Replaying.{law_clause};
@@ -212,7 +227,7 @@ use Rattle.nq_logic.specs.Ground.{symbols_of}
 use Rattle.nq_logic.specs.Numerals.{number_of}
 use Rattle.nq_logic.specs.Sizes.{tree_depth}
 use Rattle.nq_replay.specs.Replaying.{law_line, law_clause}
-use Rattle.nq_arithmetic.proofs.laws.%s_table.Goals as goal
+use Rattle.nq_number_laws.proofs.laws.%s_table.Goals as goal
 """
 ANSWER = """
 pub returns-in-%(variant)s : goal.returns-in-%(variant)s

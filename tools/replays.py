@@ -36,10 +36,10 @@ def worded(made, spelled):
 def listed(texts):
     return "&[%s]" % ", ".join(texts)
 
-def table(name, line, known, types="crate::table"):
-    """the law's table: the lines that it rests on, down to those that are known and to axioms"""
-    order, new = cone(L, line, known)
-    assert order[:len(known)] == known, (name, order[:len(known)], known)
+def table(name, line, known, types="crate::table", own=frozenset()):
+    """the law's table: the lines that it rests on, down to those that are known and to axioms; words of its own are not in nq_replay"""
+    order = known + [l for l in cone(L, line, known)[0] if l not in known]
+    new = {l: i + 1 for i, l in enumerate(order)}
     terms, names = [], []
     def place(things, x):
         if x not in things:
@@ -76,8 +76,10 @@ def table(name, line, known, types="crate::table"):
     head = "//! The table of the law `%s`. It is printed.\n\n" % name
     used = [w for w in ("Law", "LawCase", "LawHypothesis", "LawPair", "LawRule") if re.search(r"\b%s\b" % w, out)]
     uses = ["use %s::{%s};\n" % (types, ", ".join(used))]
+    if own & set(words):
+        uses.append("use crate::words::{%s};\n" % ", ".join(w for w in words if w in own))
     if words:
-        uses.append("use %s::words::{%s};\n" % (types.split("::")[0], ", ".join(words)))
+        uses.append("use %s::words::{%s};\n" % (types.split("::")[0], ", ".join(w for w in words if w not in own)))
     else:
         uses.append("use nq_steps::{Leaf, Step};\n")
     if "ground::" in out:

@@ -49,14 +49,15 @@ module _ (history : List Entry) (work : Work) where
   pub all_over : (ids : List TermId) → All (IsTermIn history work) ids → All (TermIsIn work.bank history) ids
   all_over ids h = λ k d below. (h k d below).over
 
-  pub terms_three : (ids : List TermId) (x y z : TermId) → ids ≡ x ∷ y ∷ z ∷ [] → IsTermIn history work x → IsTermIn history work y → IsTermIn history work z → All (IsTermIn history work) ids
-  terms_three ids x y z is h k l = subst (All (IsTermIn history work)) (sym is) at_place
+  pub terms_four : (ids : List TermId) (x y z w : TermId) → ids ≡ x ∷ y ∷ z ∷ w ∷ [] → IsTermIn history work x → IsTermIn history work y → IsTermIn history work z → IsTermIn history work w → All (IsTermIn history work) ids
+  terms_four ids x y z w is h k l m = subst (All (IsTermIn history work)) (sym is) at_place
     where
-      at_place : (i : ℕ) (d : TermId) → i < length (x ∷ y ∷ z ∷ []) → IsTermIn history work (get_or (x ∷ y ∷ z ∷ []) i d)
+      at_place : (i : ℕ) (d : TermId) → i < length (x ∷ y ∷ z ∷ w ∷ []) → IsTermIn history work (get_or (x ∷ y ∷ z ∷ w ∷ []) i d)
       at_place zero d below = h
       at_place (suc zero) d below = k
       at_place (suc (suc zero)) d below = l
-      at_place (suc (suc (suc i))) d below = absurd (omega arith)
+      at_place (suc (suc (suc zero))) d below = m
+      at_place (suc (suc (suc (suc i)))) d below = absurd (omega arith)
 
 -- one more term, and one more fact
 pub pushed : (history : List Entry) (work : Work) (ids all : List TermId) (t : TermId) → all ≡ ids ++ t ∷ [] → All (IsTermIn history work) ids → IsTermIn history work t → All (IsTermIn history work) all

@@ -24,6 +24,8 @@ pub enum One {
     Listp,
     /// ZEROP.
     Zerop,
+    /// FIX.
+    Fix,
 }
 
 /// A function of two arguments.
@@ -63,6 +65,7 @@ pub fn name_of_one(f: One) -> Sym
         One::Numberp => ground::NUMBERP,
         One::Listp => ground::LISTP,
         One::Zerop => ground::ZEROP,
+        One::Fix => ground::FIX,
     }
 }
 

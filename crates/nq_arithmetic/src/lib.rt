@@ -5,10 +5,6 @@
 //! goal's.
 #![tactic(auto)]
 
-// the laws, as tables of rule lines
-mod laws;
-mod tables;
-
 // facts with places for two terms
 mod functions;
 mod patterns;

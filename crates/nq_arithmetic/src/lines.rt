@@ -1,58 +1,20 @@
 //! The lines of laws.
 ghost use Rattle.std.specs.Prelude.{◌≡◌, IfOk, Err};
-ghost use Rattle.nq_kernel.specs.Growing.{LineHolds, LineStands, WorkGrows, WorkStands};
+ghost use Rattle.nq_kernel.specs.Growing.{LineStands, WorkGrows, WorkStands};
 ghost use Rattle.nq_lines.specs.Instances.{ArePairsIn};
-ghost use Rattle.nq_replay.specs.LawClauses.{size_falls_clause};
 ghost use Rattle.nq_replay.specs.Uncounted.{GrowsUncounted};
 ghost use Rattle.nq_arithmetic.specs.Claims.{AreOperandsIn};
 
-use crate::laws::{InductiveLaw, PlainLaw, inductive_table, plain_table};
 use crate::reading::Operands;
 use crate::template::ArithmeticLaw;
 use nq_clause::Pair;
+use nq_division_laws::division_line;
 use nq_history::History;
 use nq_kernel::{Stop, Work};
 use nq_lines::symbol;
-use nq_replay::{
-    first_is_smaller, implication_opens, pair_holds, replay, rest_is_smaller, size_falls,
-};
+use nq_number_laws::{inductive_line, plain_line};
+use nq_replay::{first_is_smaller, implication_opens, pair_holds, rest_is_smaller};
 use std::alloc::AllocError;
-
-/// Adds the line of a law from axioms alone.
-fn plain_line(work: &mut Work, history: &History, law: PlainLaw) -> Result<u64, AllocError>
-    requires stands { WorkStands history.now work.old }
-    ensures line { IfOk result (λ n. LineStands work.new n) }
-    ensures grows { GrowsUncounted history.now work.old work.new }
-{
-    let table = plain_table(law);
-    replay(work, history, table, &[])
-}
-
-/// Adds the line of a law by induction, after the line that a size falls.
-fn inductive_line_after(
-    work: &mut Work,
-    history: &History,
-    law: InductiveLaw,
-    falls: u64,
-) -> Result<u64, AllocError>
-    requires stands { WorkStands history.now work.old }
-    requires falls { LineHolds work.old falls size_falls_clause }
-    ensures line { IfOk result (λ n. LineStands work.new n) }
-    ensures grows { GrowsUncounted history.now work.old work.new }
-{
-    let table = inductive_table(law);
-    replay(work, history, table, &[falls])
-}
-
-/// Adds the line of a law by induction.
-fn inductive_line(work: &mut Work, history: &History, law: InductiveLaw) -> Result<u64, AllocError>
-    requires stands { WorkStands history.now work.old }
-    ensures line { IfOk result (λ n. LineStands work.new n) }
-    ensures grows { GrowsUncounted history.now work.old work.new }
-{
-    let falls = size_falls(work, history)?;
-    inductive_line_after(work, history, law, falls)
-}
 
 /// Adds the line of a law, uncounted.
 fn uncounted_line(work: &mut Work, history: &History, law: ArithmeticLaw) -> Result<u64, AllocError>
@@ -63,6 +25,7 @@ fn uncounted_line(work: &mut Work, history: &History, law: ArithmeticLaw) -> Res
     match law {
         ArithmeticLaw::Plain(plain) => plain_line(work, history, plain),
         ArithmeticLaw::Inductive(inductive) => inductive_line(work, history, inductive),
+        ArithmeticLaw::Division(division) => division_line(work, history, division),
         ArithmeticLaw::FirstIsSmaller => first_is_smaller(work, history),
         ArithmeticLaw::RestIsSmaller => rest_is_smaller(work, history),
         ArithmeticLaw::ImplicationOpens => implication_opens(work, history),

@@ -33,6 +33,17 @@ fn zero(work: &mut Work, history: &History) -> Result<TermId, Stop>
     work.app(history, name, &[])
 }
 
+/// Makes the constant T.
+fn truth(work: &mut Work, history: &History) -> Result<TermId, Stop>
+    requires stands { WorkStands history.now work.old }
+    ensures term { IfOk result (λ t. IsTermIn history.now work.new t) }
+    ensures grows { WorkGrows history.now work.old work.new }
+    ensures out { result ≡ Err Stop.OutOfSteps → work.new.counter.used ≡ work.new.counter.limit }
+{
+    let name = ground_name(&work.bank, ground::TRUE);
+    work.app(history, name, &[])
+}
+
 /// Makes the call of a function of one argument.
 fn call_one(work: &mut Work, history: &History, f: Sym, a: TermId) -> Result<TermId, Stop>
     requires stands { WorkStands history.now work.old }
@@ -112,7 +123,7 @@ fn make(
     }
 }
 
-/// The terms at the first three places.
+/// The terms at the first four places.
 fn first_terms(
     work: &mut Work,
     history: &History,
@@ -127,7 +138,8 @@ fn first_terms(
     ensures out { result ≡ Err Stop.OutOfSteps → work.new.counter.used ≡ work.new.counter.limit }
 {
     let none = zero(work, history)?;
-    match vec![in work.bank.alloc(); x, y, none] {
+    let true_term = truth(work, history)?;
+    match vec![in work.bank.alloc(); x, y, none, true_term] {
         Ok(terms) => Ok(terms),
         Err(_) => Err(Stop::Memory),
     }

@@ -5,13 +5,14 @@ ghost use Rattle.nq_kernel.specs.Growing.{LineStands, WorkGrows, WorkStands};
 ghost use Rattle.nq_lines.specs.Lines.{IsTermIn};
 ghost use Rattle.nq_arithmetic.specs.Claims.{AreOperandsIn};
 
-use crate::laws::{InductiveLaw, PlainLaw};
 use crate::lines::law_at;
 use crate::reading::{Operands, operands_of};
 use crate::template::ArithmeticLaw;
 use nq_bank::{Bank, Node, Sym, TermId, ground};
+use nq_division_laws::DivisionLaw;
 use nq_history::History;
 use nq_kernel::{Stop, Work};
+use nq_number_laws::{InductiveLaw, PlainLaw};
 
 /// The functions whose calls are numbers, each with the law that says so.
 const NUMBERS: &[(Sym, ArithmeticLaw)] = &[
@@ -36,6 +37,10 @@ const NUMBERS: &[(Sym, ArithmeticLaw)] = &[
     (
         ground::QUOTIENT,
         ArithmeticLaw::Plain(PlainLaw::QuotientIsNumber),
+    ),
+    (
+        ground::REMAINDER,
+        ArithmeticLaw::Division(DivisionLaw::RemainderIsNumber),
     ),
     (ground::FIX, ArithmeticLaw::Plain(PlainLaw::FixIsNumber)),
 ];

@@ -12,23 +12,26 @@ const Y: usize = 1;
 /// The place of 0.
 const ZERO: usize = 2;
 
+/// The place of T.
+const TRUTH: usize = 3;
+
 /// The place of the term that is made first.
-const FIRST: usize = 3;
+const FIRST: usize = 4;
 
 /// The place of the term that is made second.
-const SECOND: usize = 4;
+const SECOND: usize = 5;
 
 /// The place of the term that is made third.
-const THIRD: usize = 5;
+const THIRD: usize = 6;
 
 /// The place of the term that is made fourth.
-const FOURTH: usize = 6;
+const FOURTH: usize = 7;
 
 /// The place of the term that is made fifth.
-const FIFTH: usize = 7;
+const FIFTH: usize = 8;
 
 /// The place of the term that is made sixth.
-const SIXTH: usize = 8;
+const SIXTH: usize = 9;
 
 /// `(NOT (LESSP 0 X))`.
 pub const NOT_LESSP_ZERO_X: Pattern = Pattern {
@@ -248,5 +251,56 @@ pub const EQUAL_TIMES_X_Y_PLUS_Y_TIMES_SUB1_X_Y: Pattern = Pattern {
 /// `(EQUAL X Y)`.
 pub const EQUAL_X_Y: Pattern = Pattern {
     makes: &[Make::Two(Two::Equal, X, Y)],
+    denied: false,
+};
+
+/// `(NOT (LESSP 0 Y))`.
+pub const NOT_LESSP_ZERO_Y: Pattern = Pattern {
+    makes: &[Make::Two(Two::Lessp, ZERO, Y)],
+    denied: true,
+};
+
+/// `(LESSP (REMAINDER X Y) Y)`.
+pub const LESSP_REMAINDER_X_Y_Y: Pattern = Pattern {
+    makes: &[
+        Make::Two(Two::Remainder, X, Y),
+        Make::Two(Two::Lessp, FIRST, Y),
+    ],
+    denied: false,
+};
+
+/// `(NOT (LESSP X (REMAINDER X Y)))`.
+pub const NOT_LESSP_X_REMAINDER_X_Y: Pattern = Pattern {
+    makes: &[
+        Make::Two(Two::Remainder, X, Y),
+        Make::Two(Two::Lessp, X, FIRST),
+    ],
+    denied: true,
+};
+
+/// `(NUMBERP X)`.
+pub const NUMBERP_X: Pattern = Pattern {
+    makes: &[Make::One(One::Numberp, X)],
+    denied: false,
+};
+
+/// `(NOT (LESSP (FIX X) X))`.
+pub const NOT_LESSP_FIX_X_X: Pattern = Pattern {
+    makes: &[Make::One(One::Fix, X), Make::Two(Two::Lessp, FIRST, X)],
+    denied: true,
+};
+
+/// `(NOT (LESSP X (FIX X)))`.
+pub const NOT_LESSP_X_FIX_X: Pattern = Pattern {
+    makes: &[Make::One(One::Fix, X), Make::Two(Two::Lessp, X, FIRST)],
+    denied: true,
+};
+
+/// `(EQUAL (LESSP X Y) T)`.
+pub const EQUAL_LESSP_X_Y_TRUTH: Pattern = Pattern {
+    makes: &[
+        Make::Two(Two::Lessp, X, Y),
+        Make::Two(Two::Equal, FIRST, TRUTH),
+    ],
     denied: false,
 };

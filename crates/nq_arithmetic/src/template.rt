@@ -1,10 +1,12 @@
 //! Facts with places for two terms. They decide only what is tried.
 
 use crate::functions::{One, Two};
-use crate::laws::{InductiveLaw, PlainLaw};
 use nq_bank::Sym;
+use nq_division_laws::DivisionLaw;
+use nq_number_laws::{InductiveLaw, PlainLaw};
 
-/// A term that is made of earlier ones, which are named by their places. The two terms stand at 0 and 1, and 0 at 2.
+/// A term that is made of earlier ones, which are named by their places. The two terms stand at 0 and 1, 0 at 2,
+/// and T at 3.
 #[derive(Clone, Copy, Debug)]
 pub enum Make {
     /// A call of one argument.
@@ -49,6 +51,8 @@ pub enum ArithmeticLaw {
     Plain(PlainLaw),
     /// One by induction.
     Inductive(InductiveLaw),
+    /// One of divisions.
+    Division(DivisionLaw),
     /// `(NOT (LISTP X))`, `(LESSP (COUNT (CAR X)) (COUNT X))`.
     FirstIsSmaller,
     /// `(NOT (LISTP X))`, `(LESSP (COUNT (CDR X)) (COUNT X))`.

@@ -1,17 +1,20 @@
 //! The facts that are tried.
 
-use crate::laws::{InductiveLaw, PlainLaw};
 use crate::patterns::{
     EQUAL_ADD1_SUB1_X_X, EQUAL_COUNT_CAR_X_ZERO, EQUAL_COUNT_CDR_X_ZERO,
-    EQUAL_COUNT_CONS_X_Y_ADD1_PLUS_COUNT_X_COUNT_Y, EQUAL_COUNT_X_X, EQUAL_SUB1_X_ZERO,
-    EQUAL_TIMES_X_Y_PLUS_Y_TIMES_SUB1_X_Y, EQUAL_X_Y, EQUAL_X_ZERO, EQUAL_ZERO_Y,
-    LESSP_COUNT_CAR_X_COUNT_X, LESSP_COUNT_CDR_X_COUNT_X, LESSP_X_Y, LESSP_Y_X, LESSP_ZERO_X,
-    LESSP_ZERO_Y, LISTP_X, NOT_LESSP_PLUS_Y_DIFFERENCE_X_Y_X, NOT_LESSP_X_PLUS_Y_DIFFERENCE_X_Y,
-    NOT_LESSP_X_Y, NOT_LESSP_ZERO_DIFFERENCE_X_Y, NOT_LESSP_ZERO_X, NOT_LISTP_X, NOT_NUMBERP_X,
-    NOT_NUMBERP_Y, NOT_ORD_LESSP_X_Y, NOT_ZEROP_X, ORD_LESSP_X_Y, ZEROP_X,
+    EQUAL_COUNT_CONS_X_Y_ADD1_PLUS_COUNT_X_COUNT_Y, EQUAL_COUNT_X_X, EQUAL_LESSP_X_Y_TRUTH,
+    EQUAL_SUB1_X_ZERO, EQUAL_TIMES_X_Y_PLUS_Y_TIMES_SUB1_X_Y, EQUAL_X_Y, EQUAL_X_ZERO,
+    EQUAL_ZERO_Y, LESSP_COUNT_CAR_X_COUNT_X, LESSP_COUNT_CDR_X_COUNT_X, LESSP_REMAINDER_X_Y_Y,
+    LESSP_X_Y, LESSP_Y_X, LESSP_ZERO_X, LESSP_ZERO_Y, LISTP_X, NOT_LESSP_FIX_X_X,
+    NOT_LESSP_PLUS_Y_DIFFERENCE_X_Y_X, NOT_LESSP_X_FIX_X, NOT_LESSP_X_PLUS_Y_DIFFERENCE_X_Y,
+    NOT_LESSP_X_REMAINDER_X_Y, NOT_LESSP_X_Y, NOT_LESSP_ZERO_DIFFERENCE_X_Y, NOT_LESSP_ZERO_X,
+    NOT_LESSP_ZERO_Y, NOT_LISTP_X, NOT_NUMBERP_X, NOT_NUMBERP_Y, NOT_ORD_LESSP_X_Y, NOT_ZEROP_X,
+    NUMBERP_X, ORD_LESSP_X_Y, ZEROP_X,
 };
 use crate::template::{ArithmeticLaw, Guard, Template, Way};
 use nq_bank::ground;
+use nq_division_laws::DivisionLaw;
+use nq_number_laws::{InductiveLaw, PlainLaw};
 
 /// The facts, each at a call of its function.
 pub const TEMPLATES: &[Template] = &[
@@ -232,6 +235,50 @@ pub const TEMPLATES: &[Template] = &[
         law: ArithmeticLaw::Inductive(InductiveLaw::SizeOfNumber),
     },
     Template {
+        outer: ground::COUNT,
+        inner: None,
+        guards: &[Guard {
+            pattern: NOT_LESSP_ZERO_X,
+            way: Way::Sum,
+        }],
+        fact: EQUAL_COUNT_X_X,
+        law: ArithmeticLaw::Inductive(InductiveLaw::SizeOfPositive),
+    },
+    Template {
+        outer: ground::FIX,
+        inner: None,
+        guards: &[],
+        fact: NOT_LESSP_FIX_X_X,
+        law: ArithmeticLaw::Inductive(InductiveLaw::FixIsEnough),
+    },
+    Template {
+        outer: ground::FIX,
+        inner: None,
+        guards: &[],
+        fact: NOT_LESSP_X_FIX_X,
+        law: ArithmeticLaw::Inductive(InductiveLaw::FixIsNoMore),
+    },
+    Template {
+        outer: ground::EQUAL,
+        inner: Some(ground::LESSP),
+        guards: &[Guard {
+            pattern: EQUAL_LESSP_X_Y_TRUTH,
+            way: Way::Goal,
+        }],
+        fact: NOT_LESSP_X_Y,
+        law: ArithmeticLaw::Inductive(InductiveLaw::LessIsTruth),
+    },
+    Template {
+        outer: ground::NUMBERP,
+        inner: None,
+        guards: &[Guard {
+            pattern: NOT_LESSP_ZERO_X,
+            way: Way::Sum,
+        }],
+        fact: NUMBERP_X,
+        law: ArithmeticLaw::Plain(PlainLaw::PositiveIsNumber),
+    },
+    Template {
         outer: ground::TIMES,
         inner: None,
         guards: &[Guard {
@@ -240,6 +287,23 @@ pub const TEMPLATES: &[Template] = &[
         }],
         fact: EQUAL_TIMES_X_Y_PLUS_Y_TIMES_SUB1_X_Y,
         law: ArithmeticLaw::Plain(PlainLaw::ProductOfPositive),
+    },
+    Template {
+        outer: ground::REMAINDER,
+        inner: None,
+        guards: &[],
+        fact: NOT_LESSP_X_REMAINDER_X_Y,
+        law: ArithmeticLaw::Division(DivisionLaw::RemainderIsNoMore),
+    },
+    Template {
+        outer: ground::REMAINDER,
+        inner: None,
+        guards: &[Guard {
+            pattern: NOT_LESSP_ZERO_Y,
+            way: Way::Sum,
+        }],
+        fact: LESSP_REMAINDER_X_Y_Y,
+        law: ArithmeticLaw::Division(DivisionLaw::RemainderIsLess),
     },
 ];
 

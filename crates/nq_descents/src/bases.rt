@@ -12,7 +12,7 @@ use nq_kernel::Work;
 use nq_rule::Side;
 
 /// Adds a line with `(NOT (NOT t))` for t.
-fn denied_twice(work: &mut Work, history: &History, line: u64, t: TermId) -> Result<u64, Halt>
+pub fn denied_twice(work: &mut Work, history: &History, line: u64, t: TermId) -> Result<u64, Halt>
     requires { WorkStands history.now work.old }
     ensures { GrowsUncounted history.now work.old work.new }
 {
@@ -43,22 +43,27 @@ fn turned_term(work: &mut Work, history: &History, equation: TermId) -> Result<T
     equate(work, history, right, left)
 }
 
-/// Adds a line with the denial of the test that denies an equation, in its other order, for the equation.
+/// Adds a line with the equation in its other order for an equation, or with the NOT of its NOT, as it is wanted.
 fn tested_turned(
     work: &mut Work,
     history: &History,
     line: u64,
     equation: TermId,
+    wanted: &[TermId],
 ) -> Result<u64, Halt>
     requires { WorkStands history.now work.old }
     ensures { GrowsUncounted history.now work.old work.new }
 {
     let line = turned(work, history, line, equation)?;
     let other = turned_term(work, history, equation)?;
+    if has_id(wanted, other) {
+        return Ok(line);
+    }
     denied_twice(work, history, line, other)
 }
 
-/// Adds a line with the denial of the test that denies an equation for the equation, in the order that is wanted.
+/// Adds a line with the denial of the test that denies an equation for the equation, in the order that is wanted. Where the
+/// equation is wanted the line stays.
 fn tested_equation(
     work: &mut Work,
     history: &History,
@@ -69,11 +74,14 @@ fn tested_equation(
     requires { WorkStands history.now work.old }
     ensures { GrowsUncounted history.now work.old work.new }
 {
+    if has_id(wanted, equation) {
+        return Ok(line);
+    }
     let plain = deny_twice(work, history, equation)?;
     if has_id(wanted, plain) {
         denied_twice(work, history, line, equation)
     } else {
-        tested_turned(work, history, line, equation)
+        tested_turned(work, history, line, equation, wanted)
     }
 }
 

@@ -6,6 +6,7 @@ ghost use Rattle.nq_kernel.specs.Growing.{WorkStands};
 ghost use Rattle.nq_lines.specs.Lines.{LineHasOnly};
 ghost use Rattle.nq_replay.specs.Uncounted.{GrowsUncounted};
 
+use crate::facts::{facts_of, restored, wanted_of};
 use crate::halt::Halt;
 use crate::instances::instance;
 use crate::nests::nest_line;
@@ -71,7 +72,43 @@ fn below_line(
     cut(work, history, reached.line, law, reached.descent.smaller)
 }
 
-/// Adds the line of a literal with denials of tests, where the literal is of a kind that is tried.
+/// Adds the line that the size of a nest is less than another size.
+fn less_line(
+    work: &mut Work,
+    history: &History,
+    small: TermId,
+    large: TermId,
+    wanted: &[TermId],
+) -> Result<u64, Halt>
+    requires { WorkStands history.now work.old }
+    ensures { GrowsUncounted history.now work.old work.new }
+{
+    let t = sized(&work.bank, small)?;
+    let u = sized(&work.bank, large)?;
+    let reached = nest_line(work, history, t, u, wanted)?;
+    Ok(reached.line)
+}
+
+/// Adds the line that a size is below another, in the order of ordinals or of numbers.
+fn smaller_line(
+    work: &mut Work,
+    history: &History,
+    goal: TermId,
+    wanted: &[TermId],
+) -> Result<u64, Halt>
+    requires { WorkStands history.now work.old }
+    ensures { GrowsUncounted history.now work.old work.new }
+{
+    let small = argument(&work.bank, goal, 0)?;
+    let large = argument(&work.bank, goal, 1)?;
+    if is_call(&work.bank, ground::ORD_LESSP, goal) {
+        below_line(work, history, small, large, wanted)
+    } else {
+        less_line(work, history, small, large, wanted)
+    }
+}
+
+/// Adds the line of a literal of a kind that is tried, with denials of tests.
 fn line_of(work: &mut Work, history: &History, goal: TermId, wanted: &[TermId]) -> Result<u64, Halt>
     requires { WorkStands history.now work.old }
     ensures { GrowsUncounted history.now work.old work.new }
@@ -80,20 +117,38 @@ fn line_of(work: &mut Work, history: &History, goal: TermId, wanted: &[TermId]) 
         let size = argument(&work.bank, goal, 0)?;
         return ordinal_line(work, history, size);
     }
-    if is_call(&work.bank, ground::ORD_LESSP, goal) {
-        let small = argument(&work.bank, goal, 0)?;
-        let large = argument(&work.bank, goal, 1)?;
-        return below_line(work, history, small, large, wanted);
-    }
-    Err(Halt::Stuck)
+    smaller_line(work, history, goal, wanted)
 }
 
-/// The literal that is no test: the last one.
-fn goal_of(literals: &[TermId]) -> Result<TermId, Halt> {
-    match literals.last() {
-        Some(t) => Ok(*t),
-        None => Err(Halt::Stuck),
+/// Is a term the size of another?
+fn is_size(bank: &Bank, t: TermId, place: usize) -> bool {
+    match argument(bank, t, place) {
+        Ok(size) => is_call(bank, ground::COUNT, size),
+        Err(_) => false,
     }
+}
+
+/// Says a term that a size is below another?
+fn is_smaller(bank: &Bank, t: TermId) -> bool {
+    (is_call(bank, ground::ORD_LESSP, t) || is_call(bank, ground::LESSP, t))
+        && is_size(bank, t, 0)
+        && is_size(bank, t, 1)
+}
+
+/// Is a literal of a kind that is tried?
+fn is_goal(bank: &Bank, t: TermId) -> bool {
+    is_smaller(bank, t) || is_call(bank, ground::ORDINALP, t) && is_size(bank, t, 0)
+}
+
+/// The last literal that is of a kind that is tried.
+fn goal_of(bank: &Bank, literals: &[TermId]) -> Result<TermId, Halt> {
+    let mut found = Err(Halt::Stuck);
+    for t in literals {
+        if is_goal(bank, *t) {
+            found = Ok(*t);
+        }
+    }
+    found
 }
 
 /// Adds a line that may be the one of an obligation.
@@ -101,8 +156,11 @@ fn tried_line(work: &mut Work, history: &History, literals: &[TermId]) -> Result
     requires { WorkStands history.now work.old }
     ensures { GrowsUncounted history.now work.old work.new }
 {
-    let goal = goal_of(literals)?;
-    line_of(work, history, goal, literals)
+    let goal = goal_of(&work.bank, literals)?;
+    let facts = facts_of(work, history, literals)?;
+    let wanted = wanted_of(&work.bank, facts.as_slice())?;
+    let line = line_of(work, history, goal, wanted.as_slice())?;
+    restored(work, history, line, facts.as_slice())
 }
 
 /// Are all of these among others?
@@ -123,9 +181,9 @@ fn has_only(work: &Work, history: &History, line: u64, literals: &[TermId]) -> b
     }
 }
 
-/// The line of an obligation that says that a size is an ordinal, or that the size of a nest of accessors is below that of the
-/// term around which it stands, under tests that say at each level that the constructor made the term there. The descent is the
-/// last literal. There may be none. No step is counted.
+/// The line of a clause that says that a size is an ordinal, or that the size of a nest of accessors is below that of the term
+/// around which it stands, under tests that say at each level that the constructor made the term there. The last literal of this
+/// kind is tried. There may be none. No step is counted.
 pub fn descent_line(
     work: &mut Work,
     history: &History,

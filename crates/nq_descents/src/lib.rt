@@ -29,8 +29,17 @@ mod apart;
 mod parts;
 mod sizes;
 
+// a part whose default is T or F
+mod choices;
+mod restrictions;
+mod tables;
+mod truths;
+
 // the tests that say so, in the spelling that is wanted
 mod bases;
+
+// what follows from tests
+mod facts;
 
 // nests
 mod nests;

@@ -1,12 +1,13 @@
 //! Terms that are made without counting steps.
 ghost use Rattle.std.specs.Prelude.{◌<◌, ◌≡◌, All, true};
-ghost use Rattle.nq_bank.specs.Content.{Stands};
+ghost use Rattle.nq_bank.specs.Content.{IsNamed, Stands};
 ghost use Rattle.nq_bank.specs.GroundNames.{ground_count};
 ghost use Rattle.nq_kernel.specs.Growing.{WorkStands};
 ghost use Rattle.nq_replay.specs.Uncounted.{GrowsUncounted};
 
 use crate::halt::Halt;
-use nq_bank::{Bank, BankFault, Sym, TermId, ground, ground_name};
+use crate::reading::stands;
+use nq_bank::{Bank, BankFault, Node, Sym, TermId, ground, ground_name};
 use nq_history::History;
 use nq_kernel::Work;
 
@@ -16,6 +17,43 @@ fn all_stand(bank: &Bank, ids: &[TermId]) -> bool
 {
     let count = bank.len();
     ids.iter().all(|t| t.0 < count)
+}
+
+/// Makes the call of a function, with one argument.
+fn call_of_one(work: &mut Work, history: &History, f: Sym, argument: TermId) -> Result<TermId, Halt>
+    requires stands { WorkStands history.now work.old }
+    requires function { IsNamed work.old.bank f }
+    requires argument { Stands work.old.bank argument }
+    ensures { GrowsUncounted history.now work.old work.new }
+{
+    match work.bank.app(f, &[argument]) {
+        Ok(t) => Ok(t),
+        Err(BankFault::Memory) => Err(Halt::Memory),
+        Err(BankFault::Deep) => Err(Halt::Stuck),
+    }
+}
+
+/// Makes the call of the function of another call, with one argument.
+pub fn call_at(
+    work: &mut Work,
+    history: &History,
+    like: TermId,
+    argument: TermId,
+) -> Result<TermId, Halt>
+    requires { WorkStands history.now work.old }
+    ensures { GrowsUncounted history.now work.old work.new }
+{
+    if !stands(&work.bank, like) {
+        return Err(Halt::Stuck);
+    }
+    if !stands(&work.bank, argument) {
+        return Err(Halt::Stuck);
+    }
+    match work.bank.node(like) {
+        Node::App(f, _) => call_of_one(work, history, f, argument),
+        Node::Num(_) => Err(Halt::Stuck),
+        Node::Var(_) => Err(Halt::Stuck),
+    }
 }
 
 /// Makes the call of a ground function.

@@ -7,7 +7,8 @@ use crate::apart::{Apart, about_whole, row_at_parts, take_apart};
 use crate::halt::Halt;
 use crate::instances::instance_at;
 use crate::making::{call, deny};
-use crate::reading::{argument, last_literal, literal_at};
+use crate::reading::{argument, is_call, last_literal, literal_at};
+use crate::restrictions::restriction_met;
 use crate::rules::{cut, ground_row, replace, shell_row, sum};
 use crate::shells::PartPlace;
 use crate::sizes::{Descent, Size, descent_of, size_of};
@@ -133,7 +134,29 @@ fn defaulted_line(
     cut(work, history, size.line, line, size.equation)
 }
 
-/// Adds the line that a part is smaller or meets its restriction. Where it has none that line is T.
+/// Adds the line that a part whose default is T or F meets its restriction.
+fn met_line(work: &mut Work, history: &History, piece: Piece) -> Result<u64, Halt>
+    requires { WorkStands history.now work.old }
+    ensures { GrowsUncounted history.now work.old work.new }
+{
+    let constant = argument(&work.bank, piece.defaulted, 1)?;
+    let met = restriction_met(work, history, piece.allowed, piece.part, constant)?;
+    cut(work, history, piece.line, met, piece.defaulted)
+}
+
+/// Adds the line that a part meets its restriction. Where it has none that line is T.
+fn constant_line(work: &mut Work, history: &History, piece: Piece) -> Result<u64, Halt>
+    requires { WorkStands history.now work.old }
+    ensures { GrowsUncounted history.now work.old work.new }
+{
+    if is_call(&work.bank, ground::TRUE, piece.allowed) {
+        ground_row(work, history, ground::TRUE, 1)
+    } else {
+        met_line(work, history, piece)
+    }
+}
+
+/// Adds the line that a part is smaller or meets its restriction.
 fn other_line(
     work: &mut Work,
     history: &History,
@@ -146,7 +169,7 @@ fn other_line(
 {
     match default {
         Some(shell) => defaulted_line(work, history, shell, piece, size),
-        None => ground_row(work, history, ground::TRUE, 1),
+        None => constant_line(work, history, piece),
     }
 }
 

@@ -113,6 +113,15 @@ pub fn reflexive(work: &mut Work, history: &History, t: TermId) -> Result<u64, H
     add(work, history, Rule::Reflexive(t))
 }
 
+/// Adds the line of the equation of a call on values and its value.
+pub fn value(work: &mut Work, history: &History, t: TermId) -> Result<u64, Halt>
+    requires { WorkStands history.now work.old }
+    ensures { GrowsUncounted history.now work.old work.new }
+{
+    let t = own(work, history, t)?;
+    add(work, history, Rule::Value(t))
+}
+
 /// Adds the line of two terms, the second of which is the NOT of the first.
 fn opposites_of(work: &mut Work, history: &History, t: TermId, denied: TermId) -> Result<u64, Halt>
     requires { WorkStands history.now work.old }

@@ -51,6 +51,17 @@ fn shell_of_base(history: &History, f: Sym) -> Option<usize> {
     None
 }
 
+/// The place of the shell that has this recognizer.
+pub fn shell_of_recognizer(history: &History, f: Sym) -> Option<usize> {
+    let shells = history.shells();
+    for place in 0..shells.len() {
+        if shells[place].recognizer.0 == f.0 {
+            return Some(place);
+        }
+    }
+    None
+}
+
 /// The place of the shell whose base stands for a part, where the part is restricted.
 fn default_of(history: &History, part: &Part) -> Option<usize> {
     if !part.one_of && part.recognizers.is_empty() {

@@ -9,3 +9,4 @@ pub mod DenialLemmas
 pub mod WayLemmas
 pub mod CutLemmas
 pub mod ClosingLemmas
+pub mod FactLemmas

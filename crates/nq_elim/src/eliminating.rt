@@ -1,5 +1,6 @@
 //! ELIM: the move.
 ghost use Rattle.std.specs.Prelude.{◌≡◌, All, IfOk, IfSome, Err};
+ghost use Rattle.nq_bank.specs.Content.{terms_at};
 ghost use Rattle.nq_history.specs.Events.{events_at};
 ghost use Rattle.nq_kernel.specs.Growing.{WorkStands, WorkGrows};
 ghost use Rattle.nq_kernel.specs.Ready.{IsReady};
@@ -8,16 +9,17 @@ ghost use Rattle.nq_lines.specs.OwnTerms.{HasOwnTerms};
 ghost use Rattle.nq_reduce.specs.Clauses.{AreLiterals, LineIsIn};
 ghost use Rattle.nq_elim.specs.Candidates.{CandidateStands};
 ghost use Rattle.nq_elim.specs.Eliminations.{IsEliminationWay};
-ghost use Rattle.nq_elim.specs.Reasons.{IsReason};
+ghost use Rattle.nq_elim.specs.Reasons.{FactHolds, IsReason};
 
 use crate::candidates::{Candidate, candidates_of, ranked};
 use crate::destructors::{destructor_calls, equation_among};
 use crate::making::{Elimination, eliminated};
-use crate::reasons::{Reason, is_futile, reason_of};
+use crate::reasons::{Reason, is_futile, reason_beside, reason_of};
 use crate::rows::{literals_of, shell_line};
 use nq_bank::TermId;
 use nq_history::{Hints, History};
 use nq_kernel::{Stop, Work};
+use nq_lines::Fact;
 use nq_ready::own_terms;
 
 /// The elimination for a reason. It is none where the goal is one of its cases.
@@ -203,4 +205,23 @@ pub fn eliminate(
         candidates.as_slice(),
         turn as usize,
     )
+}
+
+/// The elimination of a variable by an equation that a line shows beside the goal.
+pub fn eliminate_by(
+    work: &mut Work,
+    history: &History,
+    hints: &Hints,
+    goal: &[TermId],
+    fact: Fact,
+) -> Result<Option<Elimination>, Stop>
+    requires stands { WorkStands history.now work.old }
+    requires goal { All (IsTermIn history.now work.old) goal.now }
+    requires fact { FactHolds history.now work.old (terms_at work.old.bank goal.now) fact }
+    ensures way { IfOk result (λ found. IfSome found (IsEliminationWay history.now work.new goal.now)) }
+    ensures grows { WorkGrows history.now work.old work.new }
+    ensures out { result ≡ Err Stop.OutOfSteps → work.new.counter.used ≡ work.new.counter.limit }
+{
+    let reason = reason_beside(work, history, goal, fact)?;
+    eliminated(work, history, hints, goal, reason, &[])
 }

@@ -32,10 +32,12 @@ mod making;
 // the move, and the way back
 mod closing;
 mod eliminating;
+mod equating;
 pub mod laws;
 
 pub use cases::Case;
 pub use closing::close_elimination;
 pub use eliminating::eliminate;
+pub use equating::equate_numbers;
 pub use making::Elimination;
 pub use reasons::Reason;

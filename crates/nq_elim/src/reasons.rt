@@ -5,7 +5,7 @@ ghost use Rattle.nq_bank.specs.Content.{term_at, terms_at};
 ghost use Rattle.nq_kernel.specs.Growing.{WorkStands, WorkGrows};
 ghost use Rattle.nq_lines.specs.Lines.{IsTermIn, LineHasOnly};
 ghost use Rattle.nq_reduce.specs.Clauses.{AreLiterals};
-ghost use Rattle.nq_elim.specs.Reasons.{IsReason};
+ghost use Rattle.nq_elim.specs.Reasons.{FactHolds, IsReason};
 
 use crate::cases::{Case, cases_of, is_case};
 use crate::lists::{are_among, has_id, joined, push_id, with_first};
@@ -147,6 +147,31 @@ pub fn reason_of(
         equation,
         more.as_slice(),
     )
+}
+
+/// The reason of an equation that a line shows beside the goal. It has no cases.
+pub fn reason_beside(
+    work: &Work,
+    history: &History,
+    goal: &[TermId],
+    fact: Fact,
+) -> Result<Reason, Stop>
+    requires goal { All (IsTermIn history.now work.now) goal.now }
+    requires fact { FactHolds history.now work.now (terms_at work.now.bank goal.now) fact }
+    ensures reason { IfOk result (IsReason history.now work.now goal.now) }
+    ensures memory { result ≡ Err Stop.OutOfSteps → ⊥ }
+{
+    let _ = history.len();
+    let alloc = work.bank.alloc();
+    let rest = joined(alloc, &[], goal)?;
+    let facts = one_fact(alloc, fact)?;
+    let cases = Vec::new(alloc);
+    Ok(Reason {
+        equation: fact.term,
+        facts,
+        cases,
+        rest,
+    })
 }
 
 /// Is the goal one of the cases of a reason?

@@ -33,7 +33,7 @@ use Rattle.nq_goals.specs.declared.kinds.Cause.TheVariants as goals
 use Rattle.nq_ground_goals.specs.Literals.{IsLiteral}
 use Rattle.nq_first_goal.specs.declared.judging.Judged.{Judged}
 use Rattle.nq_first_goal.specs.Judging.{IsCauseOf, IsJudged, cause_if, failing}
-use Rattle.nq_first_goal.proofs.Overs.{IsOver, first_goal_over}
+use Rattle.nq_uses.proofs.Overs.{IsOver, first_goal_over}
 
 -- ---- work on a bank
 

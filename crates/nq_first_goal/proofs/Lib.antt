@@ -1,4 +1,2 @@
 pub mod TextLemmas
-pub mod Overs
-pub mod Denials
 pub mod Judgements

@@ -13,7 +13,6 @@ ghost use Rattle.nq_ground_goals.specs.Literals.{IsLiteral};
 ghost use Rattle.nq_answers.specs.Goals.{goal_text};
 ghost use Rattle.nq_first_goal.specs.Judging.{IsJudged, cause_if, failing, failing_by};
 
-use crate::goals::first_goal;
 use crate::texts::goal_text;
 use nq_bank::{Bank, Mark, TermId};
 use nq_comment::Cause;
@@ -21,6 +20,7 @@ use nq_ground_goals::is_false;
 use nq_history::{Hints, History};
 use nq_kernel::{Log, Work};
 use nq_stuck::is_stuck;
+use nq_uses::first_goal;
 use std::alloc::{AllocError, Global};
 
 /// What is told of a goal, and the bank as it was before.

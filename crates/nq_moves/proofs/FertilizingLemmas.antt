@@ -1,24 +1,17 @@
 -- What a candidate of FERT says, and what stands where one term is replaced everywhere.
-use Rattle.std.proofs.Common.{◌≡◌, ◌<◌, ℕ, zero, suc, Bool, true, false, ◌&&◌, ◌||◌, not, Option, Some, None, List, [], ◌∷◌, map, refl, sym, ap, ◌∙◌, subst, inl, inr, arith}
+use Rattle.std.proofs.Common.{◌≡◌, ◌<◌, ℕ, zero, suc, Bool, true, false, ◌&&◌, ◌||◌, not, Option, Some, None, List, [], ◌∷◌, refl, sym, ap, ◌∙◌, subst, inl, inr, arith}
 use Rattle.std.specs.Prelude.{codes}
 use Rattle.nq_logic.specs.Terms.{Term, Variable, Function, Applied, IsAmong}
 use Rattle.nq_logic.specs.Numerals.{numeral_limit}
 use Rattle.nq_logic.specs.Words.{not_term, equal_term, numeral}
 use Rattle.nq_logic.specs.Values.{is_value}
 use Rattle.nq_logic.specs.RuleShapes.{is_call}
-use Rattle.nq_bank.specs.declared.node.TermId.{TermId}
-use Rattle.nq_bank.specs.Content.{Content, terms_at}
 use Rattle.nq_bank.proofs.Numerals.{is_value-number, number_of-numeral}
-use Rattle.nq_logic.specs.Histories.{History}
-use Rattle.nq_events.specs.Events.{Hints}
 use Rattle.nq_proof.specs.Clauses.{Clause, same_term, without}
 use Rattle.nq_proof.proofs.Tests.{same_true}
-use Rattle.nq_moves.specs.declared.moved.Moved.{Moved}
 use Rattle.nq_goals.specs.Equations.{Equation, readings, both_orders, hypothesis_equation}
-use Rattle.nq_goals.specs.Replacing.{stands_in, stands_within, stands_in_one, IsReplaced, IsReplacedWithin, IsReplacedOnce, IsReplacedOnceWithin, AreReplaced, AreReplacedOnce, exchanged, exchanged_within, exchanged_for}
-use Rattle.nq_goals.specs.Fertilizing.{Fertilizing, can_fertilize, from_readings, from_literals, FertilizeMove}
-use Rattle.nq_moves.specs.Found.{goals_at}
-use Rattle.nq_moves.specs.Fertilized.{IsFertilized}
+use Rattle.nq_goals.specs.Replacing.{stands_in, stands_within, stands_in_one, IsReplaced, IsReplacedWithin, IsReplacedOnce, IsReplacedOnceWithin, exchanged, exchanged_within, exchanged_for}
+use Rattle.nq_goals.specs.Fertilizing.{Fertilizing, can_fertilize, from_readings, from_literals}
 use Rattle.nq_moves.specs.Back.{Denies}
 use Rattle.nq_moves.proofs.CandidateLemmas.{hypothesis_is, either_list}
 
@@ -128,12 +121,8 @@ module _ (a b : Term) where
   within_everywhere (Function f) = refl
   within_everywhere (Applied t u) = (within_everywhere t, picked u (same_term a u) refl (within_everywhere u))
 
-  everywhere : (t : Term) → IsReplaced a b t (exchanged ((a, b) ∷ []) t)
+  pub everywhere : (t : Term) → IsReplaced a b t (exchanged ((a, b) ∷ []) t)
   everywhere t = picked t (same_term a t) refl (within_everywhere t)
-
-  pub all_everywhere : (c : Clause) → AreReplaced a b c (map (exchanged ((a, b) ∷ [])) c)
-  all_everywhere [] = tt
-  all_everywhere (t ∷ c) = (everywhere t, all_everywhere c)
 
   picked_once : (t : Term) (w : Bool) → same_term a t ≡ w → (stands_within a t ≡ true → IsReplacedOnceWithin a b t (exchanged_within ((a, b) ∷ []) t)) → (w || stands_within a t) ≡ true → IsReplacedOnce a b t (exchanged ((a, b) ∷ []) t)
   picked_once t true e once k = inl (sym (same_true a t e), ap (λ x. elim x as (λ x. Term) [ true ↦ b | false ↦ exchanged_within ((a, b) ∷ []) t ]) e)
@@ -148,21 +137,5 @@ module _ (a b : Term) where
   once_within (Function f) k = absurd cc
   once_within (Applied t u) k = once_of t u (stands_within a t) refl (once_within t) (once_within u) k
 
-  once_listed : (t : Term) (c : Clause) (w : Bool) → stands_in a t ≡ w → (stands_in_one a c ≡ true → AreReplacedOnce a b c (map (exchanged ((a, b) ∷ [])) c)) → (w || stands_in_one a c) ≡ true → AreReplacedOnce a b (t ∷ c) (map (exchanged ((a, b) ∷ [])) (t ∷ c))
-  once_listed t c true e rest k = inl (picked_once t (same_term a t) refl (once_within t) e, all_everywhere c)
-  once_listed t c false e rest k = inr (everywhere t, rest k)
-
-  pub once_everywhere : (c : Clause) → stands_in_one a c ≡ true → AreReplacedOnce a b c (map (exchanged ((a, b) ∷ [])) c)
-  once_everywhere [] k = absurd cc
-  once_everywhere (t ∷ c) k = once_listed t c (stands_in a t) refl (once_everywhere c) k
-
-pub fertilized_is_move : (bank : Content) (h : History) (hints : Hints) (path : List Clause) (goal : List TermId) (moved : Moved) → IsFertilized bank goal moved → FertilizeMove h hints path (terms_at bank goal) (goals_at bank moved.children.items)
-fertilized_is_move bank h hints path goal moved m =
-    let f = fertile (terms_at bank goal) (terms_at bank goal) m.chosen m.candidate in
-    record {
-      chosen = m.chosen;
-      candidate = m.candidate;
-      literals = map (exchanged ((m.chosen.from, m.chosen.into) ∷ [])) (without m.chosen.literal (terms_at bank goal));
-      replaced = once_everywhere m.chosen.from m.chosen.into (without m.chosen.literal (terms_at bank goal)) f.stands;
-      leads = m.leads;
-    }
+  pub once_in : (t : Term) → stands_in a t ≡ true → IsReplacedOnce a b t (exchanged ((a, b) ∷ []) t)
+  once_in t k = picked_once t (same_term a t) refl (once_within t) k

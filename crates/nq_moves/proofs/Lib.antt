@@ -17,11 +17,13 @@ pub mod NewLemmas
 pub mod RenamedLemmas
 pub mod ImageLemmas
 pub mod FertilizingLemmas
-pub mod FertileLemmas
+pub mod ChoosingLemmas
 pub mod StandingLemmas
 pub mod LastingLemmas
 pub mod OverLemmas
 pub mod SwappedLemmas
+pub mod LegalLemmas
+pub mod FertileLemmas
 pub mod CrossedLemmas
 pub mod WayLemmas
 pub mod NamingLemmas

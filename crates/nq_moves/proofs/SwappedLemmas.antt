@@ -1,17 +1,16 @@
 -- Goals in which one side of an equation took the other's place.
-use Rattle.std.proofs.Common.{◌≡◌, ◌⊎◌, ◌<◌, ◌≤◌, ℕ, zero, suc, Option, Some, None, List, [], ◌∷◌, ◌++◌, length, map, get_or, refl, sym, ap, ◌∙◌, subst, inl, inr, arith}
+use Rattle.std.proofs.Common.{◌≡◌, ◌⊎◌, ◌<◌, ◌≤◌, ℕ, zero, suc, Bool, true, false, if◌then◌else◌, Option, Some, None, List, [], ◌∷◌, ◌++◌, length, map, get_or, refl, sym, ap, ◌∙◌, subst, inl, inr, arith}
 use Rattle.std.specs.Prelude.{All, IfSome, IsSome, IfOk, Result, unwrap_or}
-use Rattle.std.proofs.lemmas.List.{map_push}
 use Rattle.std.specs.Option.{option_map}
 use Rattle.nq_logic.specs.Terms.{Term, IsAmong}
 use Rattle.nq_logic.specs.Values.{is_value}
 use Rattle.nq_logic.specs.Words.{not_term, equal_term}
 use Rattle.nq_logic.specs.Ground.{symbols_of}
 use Rattle.nq_bank.specs.declared.node.TermId.{TermId}
-use Rattle.nq_bank.specs.Content.{Content, Stands, IsIdOf, term_at, terms_at, term_from}
+use Rattle.nq_bank.specs.Content.{Content, Stands, IsIdOf, term_at, terms_at}
 use Rattle.nq_bank.specs.Parts.{parts_of}
 use Rattle.nq_bank.proofs.Growth.{Stands-grown, term_at-grown, terms_at-grown}
-use Rattle.nq_proof.specs.Clauses.{Clause, literal_at, without, distinct}
+use Rattle.nq_proof.specs.Clauses.{Clause, literal_at, without, distinct, same_term}
 use Rattle.nq_rule.specs.Results.{with_argument}
 use Rattle.nq_history.specs.declared.entry.Entry.{Entry}
 use Rattle.nq_history.specs.Events.{events_at}
@@ -20,9 +19,8 @@ use Rattle.nq_kernel.specs.declared.work.Stop.{Stop}
 use Rattle.nq_kernel.specs.Growing.{WorkStands, WorkGrows}
 use Rattle.nq_lines.specs.Lines.{IsTermIn, AreAmong, LineHasOnly}
 use Rattle.nq_lines.proofs.TermLemmas.{term_grown, same_term_grown}
-use Rattle.nq_lines.proofs.LineLemmas.{from_distinct, left_among, among_either}
+use Rattle.nq_lines.proofs.LineLemmas.{from_distinct}
 use Rattle.nq_lines.proofs.Among.{on_left}
-use Rattle.nq_lines.proofs.InstanceLemmas.{mapped_among}
 use Rattle.nq_goals.specs.Equations.{hypothesis_equation}
 use Rattle.nq_goals.specs.Replacing.{Exchange, exchanged}
 use Rattle.nq_moves.specs.declared.equations.Sides.{Sides}
@@ -33,7 +31,7 @@ use Rattle.nq_moves.specs.declared.exchanging.Exchanging.{Exchanging}
 use Rattle.nq_moves.specs.Exchanging.{ExchangeStands}
 use Rattle.nq_moves.specs.Back.{Denies}
 use Rattle.nq_moves.specs.Found.{sides_at}
-use Rattle.nq_moves.specs.Swapped.{IsReading, reading_at, crossed, crossings_at, CrossingStands, IsSwapping, IsSwapped}
+use Rattle.nq_moves.specs.Swapped.{IsReading, reading_at, crossed, crossings_at, swapped_literal, swapped_goal, CrossingStands, IsSwapping, IsSwapped}
 use Rattle.nq_moves.proofs.CandidateLemmas.{hypothesis_is}
 use Rattle.nq_moves.proofs.ClosingLemmas.{IsInWork, each_over, side_over, side_over_too, all_stand, some_in, without_among}
 use Rattle.nq_moves.proofs.OverLemmas.{one_exchanged_in, in_grown, ids_in, mapped_in}
@@ -198,24 +196,66 @@ module _ (history : List Entry) (old new : Work) (goal rest made child : List Te
   pub child_in : All (IsTermIn history new) made → All (Stands new.bank) child → terms_at new.bank child ≡ distinct (terms_at new.bank made) → All (IsTermIn history new) child
   child_in all stand is = some_in history new made child all stand (λ t m. from_distinct t (terms_at new.bank made) (subst (IsAmong t) is m))
 
-  pub everywhere_within : terms_at old.bank rest ≡ without (term_at old.bank r.literal) (terms_at old.bank goal) → terms_at new.bank made ≡ map (exchanged (reading_at old.bank r)) (terms_at old.bank rest) → terms_at new.bank child ≡ distinct (terms_at new.bank made) → AreAmong (terms_at new.bank child) (map (exchanged (reading_at old.bank r)) (without (term_at old.bank r.literal) (terms_at old.bank goal)) ++ terms_at old.bank goal)
-  everywhere_within rest_is made_is child_is t m =
-      let all : List Term = map (exchanged (reading_at old.bank r)) (without (term_at old.bank r.literal) (terms_at old.bank goal)) in
-      on_left all (terms_at old.bank goal) t (subst (IsAmong t) (made_is ∙ ap (map (exchanged (reading_at old.bank r))) rest_is) (from_distinct t (terms_at new.bank made) (subst (IsAmong t) child_is m)))
+-- each literal of a child is the crossed one, or one with the one side in the other's place
+swapped_among : (bank : Content) (es : Exchange) (crossing : Option Crossing) (c rest : Clause) (t : Term) → IsAmong t (map (swapped_literal bank es crossing) c) → IsAmong t (crossings_at bank es crossing ++ (map (exchanged es) c ++ rest))
+swapped_among bank es None c rest t m = on_left (map (exchanged es) c) rest t m
+swapped_among bank es (Some x) [] rest t m = absurd m
+swapped_among bank es (Some x) (u ∷ c) rest t (inl e) = by_test (same_term (term_at bank x.whole) u) e
+  where
+    by_test : (b : Bool) → t ≡ (if b then crossed es x.place (term_at bank x.whole) else exchanged es u) → IsAmong t (crossings_at bank es (Some x) ++ (map (exchanged es) (u ∷ c) ++ rest))
+    by_test true k = inl k
+    by_test false k = inr (inl k)
+swapped_among bank es (Some x) (u ∷ c) rest t (inr m) = later (swapped_among bank es (Some x) c rest t m)
+  where
+    later : IsAmong t (crossings_at bank es (Some x) ++ (map (exchanged es) c ++ rest)) → IsAmong t (crossings_at bank es (Some x) ++ (map (exchanged es) (u ∷ c) ++ rest))
+    later (inl k) = inl k
+    later (inr k) = inr (inr k)
 
--- the literals of a child with a crossing
-module _ (history : List Entry) (old mid new : Work) (goal rest others made child : List TermId) (one : TermId) (r : Reading) (x : Crossing) where
-  pub across_within : terms_at old.bank rest ≡ without (term_at old.bank r.literal) (terms_at old.bank goal) → terms_at old.bank others ≡ without (term_at old.bank x.whole) (terms_at old.bank rest) → terms_at new.bank made ≡ map (exchanged (reading_at old.bank r)) (terms_at old.bank others) → term_at new.bank one ≡ crossed (reading_at old.bank r) x.place (term_at old.bank x.whole) → terms_at new.bank child ≡ distinct (terms_at new.bank (made ++ one ∷ [])) → AreAmong (terms_at new.bank child) (crossings_at old.bank (reading_at old.bank r) (Some x) ++ (map (exchanged (reading_at old.bank r)) (without (term_at old.bank r.literal) (terms_at old.bank goal)) ++ terms_at old.bank goal))
-  across_within rest_is others_is made_is one_is child_is t m =
-      let X : Term → Term = exchanged (reading_at old.bank r) in
-      let left : List Term = without (term_at old.bank r.literal) (terms_at old.bank goal) in
-      let whole : List Term = terms_at new.bank made ++ term_at new.bank one ∷ [] in
-      let there : IsAmong t whole = subst (IsAmong t) (map_push (term_from new.bank.terms) made one) (from_distinct t (terms_at new.bank (made ++ one ∷ [])) (subst (IsAmong t) child_is m)) in
-      let within : AreAmong (terms_at old.bank others) left = λ u k. subst (IsAmong u) rest_is (left_among u (term_at old.bank x.whole) (terms_at old.bank rest) (subst (IsAmong u) others_is k)) in
-      elim (among_either t (terms_at new.bank made) (term_at new.bank one ∷ []) there) [
-        | inl k ↦ inr (on_left (map X left) (terms_at old.bank goal) t (mapped_among X (terms_at old.bank others) left within t (subst (IsAmong t) made_is k)))
-        | inr k ↦ elim k [ inl e ↦ inl (e ∙ one_is) | inr none ↦ absurd none ]
-      ]
+pub swapping_is : (history : List Entry) (work : Work) (goal : List TermId) (r : Reading) (crossing : Option Crossing) (child : Clause) → child ≡ swapped_goal work.bank r crossing goal → IsReading history work goal r → is_value (term_at work.bank r.from) ≡ false → IfSome crossing (CrossingStands history work goal) → IsSwapping history work goal r crossing child
+swapping_is history work goal r crossing child is reading no_value crosses =
+    let c : List Term = without (term_at work.bank r.literal) (terms_at work.bank goal) in
+    let X : Term → Term = swapped_literal work.bank (reading_at work.bank r) crossing in
+    record {
+      reading = reading;
+      no_value = no_value;
+      crossing_stands = crosses;
+      within = λ t m. swapped_among work.bank (reading_at work.bank r) crossing c (terms_at work.bank goal) t (from_distinct t (map X c) (subst (IsAmong t) is m));
+    }
+
+-- what is swapped stays so when work has grown
+module _ (history : List Entry) (old new : Work) (grows : WorkGrows history old new) (r : Reading) (from : IsTermIn history old r.from) (into : IsTermIn history old r.into) where
+  pub sides_same : reading_at new.bank r ≡ reading_at old.bank r
+  sides_same =
+      ap (λ t. (t, term_at new.bank r.into) ∷ []) (same_term_grown history old new r.from grows from) ∙
+      ap (λ t. (term_at old.bank r.from, t) ∷ []) (same_term_grown history old new r.into grows into)
+
+  module _ (x : Crossing) (whole : IsTermIn history old x.whole) where
+    whole_same : term_at new.bank x.whole ≡ term_at old.bank x.whole
+    whole_same = same_term_grown history old new x.whole grows whole
+
+    pub crossed_same : crossed (reading_at new.bank r) x.place (term_at new.bank x.whole) ≡ crossed (reading_at old.bank r) x.place (term_at old.bank x.whole)
+    crossed_same = ap (λ es. crossed es x.place (term_at new.bank x.whole)) sides_same ∙ ap (crossed (reading_at old.bank r) x.place) whole_same
+
+    pub literal_same : (t : Term) → swapped_literal new.bank (reading_at new.bank r) (Some x) t ≡ swapped_literal old.bank (reading_at old.bank r) (Some x) t
+    literal_same t =
+        ap (λ es. swapped_literal new.bank es (Some x) t) sides_same ∙
+        ap (λ w. if same_term w t then crossed (reading_at old.bank r) x.place w else exchanged (reading_at old.bank r) t) whole_same
+
+    pub literals_same : (ts : List Term) → map (swapped_literal new.bank (reading_at new.bank r) (Some x)) ts ≡ map (swapped_literal old.bank (reading_at old.bank r) (Some x)) ts
+    literals_same [] = refl
+    literals_same (t ∷ ts) =
+        ap (λ u. u ∷ map (swapped_literal new.bank (reading_at new.bank r) (Some x)) ts) (literal_same t) ∙
+        ap (λ us. swapped_literal old.bank (reading_at old.bank r) (Some x) t ∷ us) (literals_same ts)
+
+pub swapped_same : (bank : Content) (es : Exchange) (x : Crossing) (t : Term) → same_term (term_at bank x.whole) t ≡ true → crossed es x.place (term_at bank x.whole) ≡ swapped_literal bank es (Some x) t
+swapped_same bank es x t e = sym (ap (λ b. if b then crossed es x.place (term_at bank x.whole) else exchanged es t) e)
+
+pub swapped_other : (bank : Content) (es : Exchange) (x : Crossing) (t : Term) → same_term (term_at bank x.whole) t ≡ false → exchanged es t ≡ swapped_literal bank es (Some x) t
+swapped_other bank es x t e = sym (ap (λ b. if b then crossed es x.place (term_at bank x.whole) else exchanged es t) e)
+
+pub if_some : {X : Type 0} (o : Option X) (P Q : X → Type 0) → ((x : X) → P x → Q x) → IfSome o P → IfSome o Q
+if_some None P Q f h = tt
+if_some (Some x) P Q f h = f x h
 
 -- the three ids of a list are those of the reading
 pub three_items : (xs : List TermId) (r q : Reading) → xs ≡ r.literal ∷ r.from ∷ r.into ∷ [] → q.literal ≡ get_or xs 0 q.literal → q.from ≡ get_or xs 1 q.from → q.into ≡ get_or xs 2 q.into → r ≡ q

@@ -12,3 +12,4 @@ pub mod Swapped
 pub mod Renamed
 pub mod Naming
 pub mod Ways
+pub mod OfTable

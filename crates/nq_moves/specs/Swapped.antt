@@ -1,11 +1,11 @@
 -- Goals that follow where one side of an equation, which a literal denies, takes the other's place.
-use Rattle.std.specs.Prelude.{◌≡◌, ℕ, false, List, [], ◌∷◌, ◌++◌, map, Option, Some, None, IfSome, IsSome, unwrap_or}
+use Rattle.std.specs.Prelude.{◌≡◌, ℕ, false, List, [], ◌∷◌, ◌++◌, map, Option, Some, None, IfSome, IsSome, unwrap_or, if◌then◌else◌}
 use Rattle.nq_logic.specs.Terms.{Term, IsAmong}
 use Rattle.nq_logic.specs.Values.{is_value}
 use Rattle.nq_bank.specs.declared.node.TermId.{TermId}
 use Rattle.nq_bank.specs.Content.{Content, Stands, term_at, terms_at}
 use Rattle.nq_bank.specs.Parts.{parts_of}
-use Rattle.nq_proof.specs.Clauses.{Clause, literal_at, without}
+use Rattle.nq_proof.specs.Clauses.{Clause, literal_at, without, distinct, same_term}
 use Rattle.nq_rule.specs.Results.{with_argument}
 use Rattle.nq_history.specs.declared.entry.Entry.{Entry}
 use Rattle.nq_kernel.specs.declared.work.Work.{Work}
@@ -42,6 +42,15 @@ crossed es place t = with_argument place (exchanged es (part_at place t)) t
 abbrev pub crossings_at : Content → Exchange → Option Crossing → List Term
 crossings_at bank es None = []
 crossings_at bank es (Some x) = crossed es x.place (term_at bank x.whole) ∷ []
+
+-- a literal with the one side in the other's place: in one argument alone where it is the crossed one
+abbrev pub swapped_literal : Content → Exchange → Option Crossing → Term → Term
+swapped_literal bank es None t = exchanged es t
+swapped_literal bank es (Some x) t = if same_term (term_at bank x.whole) t then crossed es x.place (term_at bank x.whole) else exchanged es t
+
+-- the goal without the denied equation, with the one side in the other's place
+abbrev pub swapped_goal : Content → Reading → Option Crossing → List TermId → Clause
+swapped_goal bank r crossing goal = distinct (map (swapped_literal bank (reading_at bank r) crossing) (without (term_at bank r.literal) (terms_at bank goal)))
 
 -- a literal of the goal has an argument at this place
 pub record CrossingStands (history : List Entry) (work : Work) (goal : List TermId) (x : Crossing) : Type 0 where

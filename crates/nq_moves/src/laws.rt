@@ -1,6 +1,5 @@
 //! What the moves' definitions promise. Each function's contract is a law and its body is empty.
 ghost use Rattle.nq_moves.specs.Laws.{ExchangedBack, CandidatesAreEquations, SubstitutedIsMove, DroppedIsMove, ArgumentsFollow, SeveralAreNoNumeral, NewVariablesAreNew, SubstitutedLasts};
-ghost use Rattle.nq_moves.specs.Fertilized.{FertilizedIsMove};
 ghost use Rattle.nq_moves.specs.Ways.{WaysLast};
 
 /// Terms that new variables have replaced come back by an instance.
@@ -17,7 +16,6 @@ pub fn candidates_are_equations()
 pub fn calls_make_moves()
     ensures substituted { SubstitutedIsMove }
     ensures dropped { DroppedIsMove }
-    ensures fertilized { FertilizedIsMove }
 {}
 
 /// The arguments of a call are replaced one after the other.

@@ -1,6 +1,7 @@
 //! The moves of the waterfall other than simplification and induction, and the ways back from the goals to which they lead.
 //!
-//! `substitute_move`, `fertilize_move`, `generalize_move` and `irrelevant_move` lead a goal on, where the heuristics find something.
+//! `substitute_move`, `fertilize_move` and `irrelevant_move` lead a goal on exactly where it has a candidate, and to the goals of a
+//! move of their kind (`specs/OfTable`), on every path and under all hints; `generalize_move` where the heuristics find something.
 //! From lines that have only literals of the goals to which a move led, `close_move` makes a line that has only literals of the goal.
 //! That this can be done is `IsWay` (`specs/Ways`), which lasts however the work grows (`laws::ways_last`); what is tried, and in
 //! which order, has no contract.
@@ -52,7 +53,6 @@ mod standing;
 // FERT: the choice, the goals, and the closing
 mod crossing;
 mod fertile;
-mod fertilizing;
 mod swapping;
 mod weighing;
 
@@ -75,7 +75,6 @@ pub use dropping::{close_left, drop_first};
 pub use equal::{Swap, equal_within, keep_equal, known_equal};
 pub use exchanging::{Exchanging, exchange_all, exchange_within, replacing};
 pub use fertile::fertilize_move;
-pub use fertilizing::close_fertilization;
 pub use generalizing::generalize_move;
 pub use moved::{Crossing, Moved, Why};
 pub use naming::{Numbered, Renaming, rename};

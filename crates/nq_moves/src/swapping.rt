@@ -8,10 +8,11 @@ ghost use Rattle.nq_kernel.specs.declared.verdict.MoveKind.TheVariants as kind;
 ghost use Rattle.nq_kernel.specs.Growing.{WorkStands, WorkGrows};
 ghost use Rattle.nq_lines.specs.Lines.{IsTermIn};
 ghost use Rattle.nq_goals.specs.Replacing.{exchanged};
-ghost use Rattle.nq_moves.specs.Swapped.{IsReading, reading_at, crossed, CrossingStands, IsSwapping, IsSwapped};
+ghost use Rattle.nq_moves.specs.Found.{goals_at};
+ghost use Rattle.nq_moves.specs.Swapped.{IsReading, reading_at, crossed, CrossingStands, swapped_literal, swapped_goal};
 ghost use Rattle.nq_moves.specs.Ways.{IsMove};
 
-use crate::clauses::{clause_without, distinct_clause};
+use crate::clauses::{clause_without, distinct_clause, is_same};
 use crate::exchanging::{Exchanging, exchange_all, exchange_within};
 use crate::known::push_id;
 use crate::moved::{Crossing, Moved, Why};
@@ -93,53 +94,116 @@ fn cross(work: &mut Work, history: &History, r: Reading, x: Crossing) -> Result<
     changed_call(work, history, x.whole, x.place, made)
 }
 
-/// The goal without the equation, with the one side in the other's place.
-fn swap_everywhere(
+/// A literal with the one side in the other's place. Of the crossed literal the id is known.
+fn swap_but_one(
     work: &mut Work,
     history: &History,
-    goal: &[TermId],
+    t: TermId,
     r: Reading,
-) -> Result<Vec<TermId>, Stop>
+    x: Crossing,
+    one: TermId,
+) -> Result<TermId, Stop>
     requires stands { WorkStands history.now work.old }
-    requires goal { All (IsTermIn history.now work.old) goal.now }
-    requires reading { IsReading history.now work.old goal.now r }
+    requires term { IsTermIn history.now work.old t }
+    requires from { IsTermIn history.now work.old r.from }
+    requires into { IsTermIn history.now work.old r.into }
     requires no_value { is_value (term_at work.old.bank r.from) ≡ false }
-    ensures child { IfOk result (λ c. IsSwapping history.now work.old goal.now r None (terms_at work.new.bank c.items)) }
-    ensures over { IfOk result (λ c. All (IsTermIn history.now work.new) c.items) }
+    requires whole { Stands work.old.bank x.whole }
+    requires one { IsTermIn history.now work.old one }
+    requires crossed { term_at work.old.bank one ≡ crossed (reading_at work.old.bank r) x.place (term_at work.old.bank x.whole) }
+    ensures term { IfOk result (λ u. IsIdOf work.new.bank u (swapped_literal work.old.bank (reading_at work.old.bank r) (Some x) (term_at work.old.bank t))) }
+    ensures over { IfOk result (λ u. IsTermIn history.now work.new u) }
     ensures grows { WorkGrows history.now work.old work.new }
     ensures out { result ≡ Err Stop.OutOfSteps → work.new.counter.used ≡ work.new.counter.limit }
 {
-    let rest = clause_without(&work.bank, r.literal, goal)?;
-    let made = swap_in_terms(work, history, rest.as_slice(), r)?;
-    distinct_clause(&work.bank, made.as_slice())
+    if is_same(&work.bank, x.whole, t) {
+        Ok(one)
+    } else {
+        swap_in_term(work, history, t, r)
+    }
 }
 
-/// The same, where in one literal it takes the other's place in one argument alone.
+/// The literals with the one side in the other's place, the crossed one in one argument alone.
+fn swap_but_ones(
+    work: &mut Work,
+    history: &History,
+    terms: &[TermId],
+    r: Reading,
+    x: Crossing,
+    one: TermId,
+) -> Result<Vec<TermId>, Stop>
+    requires stands { WorkStands history.now work.old }
+    requires terms { All (IsTermIn history.now work.old) terms.now }
+    requires from { IsTermIn history.now work.old r.from }
+    requires into { IsTermIn history.now work.old r.into }
+    requires no_value { is_value (term_at work.old.bank r.from) ≡ false }
+    requires whole { IsTermIn history.now work.old x.whole }
+    requires one { IsTermIn history.now work.old one }
+    requires crossed { term_at work.old.bank one ≡ crossed (reading_at work.old.bank r) x.place (term_at work.old.bank x.whole) }
+    ensures terms { IfOk result (λ v. terms_at work.new.bank v.items ≡ map (swapped_literal work.old.bank (reading_at work.old.bank r) (Some x)) (terms_at work.old.bank terms.now)) }
+    ensures over { IfOk result (λ v. All (IsTermIn history.now work.new) v.items) }
+    ensures grows { WorkGrows history.now work.old work.new }
+    ensures out { result ≡ Err Stop.OutOfSteps → work.new.counter.used ≡ work.new.counter.limit }
+{
+    let mut made = Vec::new(work.bank.alloc());
+    for t in terms {
+        let u = swap_but_one(work, history, *t, r, x, one)?;
+        push_id(&mut made, u)?;
+    }
+    Ok(made)
+}
+
+/// The literals with the one side in the other's place, where in one literal it takes it in one argument alone.
 fn swap_across(
     work: &mut Work,
     history: &History,
-    goal: &[TermId],
+    terms: &[TermId],
     r: Reading,
     x: Crossing,
 ) -> Result<Vec<TermId>, Stop>
     requires stands { WorkStands history.now work.old }
-    requires goal { All (IsTermIn history.now work.old) goal.now }
-    requires reading { IsReading history.now work.old goal.now r }
+    requires terms { All (IsTermIn history.now work.old) terms.now }
+    requires from { IsTermIn history.now work.old r.from }
+    requires into { IsTermIn history.now work.old r.into }
     requires no_value { is_value (term_at work.old.bank r.from) ≡ false }
-    requires crossing { CrossingStands history.now work.old goal.now x }
-    ensures child { IfOk result (λ c. IsSwapping history.now work.old goal.now r (Some x) (terms_at work.new.bank c.items)) }
-    ensures over { IfOk result (λ c. All (IsTermIn history.now work.new) c.items) }
+    requires whole { IsTermIn history.now work.old x.whole }
+    requires place { IsSome (literal_at x.place (parts_of (term_at work.old.bank x.whole))) }
+    ensures terms { IfOk result (λ v. terms_at work.new.bank v.items ≡ map (swapped_literal work.old.bank (reading_at work.old.bank r) (Some x)) (terms_at work.old.bank terms.now)) }
+    ensures over { IfOk result (λ v. All (IsTermIn history.now work.new) v.items) }
     ensures grows { WorkGrows history.now work.old work.new }
     ensures out { result ≡ Err Stop.OutOfSteps → work.new.counter.used ≡ work.new.counter.limit }
 {
-    let rest = clause_without(&work.bank, r.literal, goal)?;
-    let others = clause_without(&work.bank, x.whole, rest.as_slice())?;
-    let mut made = swap_in_terms(work, history, others.as_slice(), r)?;
     let one = cross(work, history, r, x)?;
-    push_id(&mut made, one)?;
-    distinct_clause(&work.bank, made.as_slice())
+    swap_but_ones(work, history, terms, r, x, one)
 }
 
+/// The literals with the one side in the other's place.
+fn swap_literals(
+    work: &mut Work,
+    history: &History,
+    terms: &[TermId],
+    r: Reading,
+    crossing: Option<Crossing>,
+) -> Result<Vec<TermId>, Stop>
+    requires stands { WorkStands history.now work.old }
+    requires terms { All (IsTermIn history.now work.old) terms.now }
+    requires from { IsTermIn history.now work.old r.from }
+    requires into { IsTermIn history.now work.old r.into }
+    requires no_value { is_value (term_at work.old.bank r.from) ≡ false }
+    requires whole { IfSome crossing (λ x. IsTermIn history.now work.old x.whole) }
+    requires place { IfSome crossing (λ x. IsSome (literal_at x.place (parts_of (term_at work.old.bank x.whole)))) }
+    ensures terms { IfOk result (λ v. terms_at work.new.bank v.items ≡ map (swapped_literal work.old.bank (reading_at work.old.bank r) crossing) (terms_at work.old.bank terms.now)) }
+    ensures over { IfOk result (λ v. All (IsTermIn history.now work.new) v.items) }
+    ensures grows { WorkGrows history.now work.old work.new }
+    ensures out { result ≡ Err Stop.OutOfSteps → work.new.counter.used ≡ work.new.counter.limit }
+{
+    match crossing {
+        None => swap_in_terms(work, history, terms, r),
+        Some(x) => swap_across(work, history, terms, r, x),
+    }
+}
+
+/// The goal without the equation, with the one side in the other's place.
 fn swap_in_goal(
     work: &mut Work,
     history: &History,
@@ -152,15 +216,14 @@ fn swap_in_goal(
     requires reading { IsReading history.now work.old goal.now r }
     requires no_value { is_value (term_at work.old.bank r.from) ≡ false }
     requires crossing { IfSome crossing (CrossingStands history.now work.old goal.now) }
-    ensures child { IfOk result (λ c. IsSwapping history.now work.old goal.now r crossing (terms_at work.new.bank c.items)) }
+    ensures child { IfOk result (λ c. terms_at work.new.bank c.items ≡ swapped_goal work.old.bank r crossing goal.now) }
     ensures over { IfOk result (λ c. All (IsTermIn history.now work.new) c.items) }
     ensures grows { WorkGrows history.now work.old work.new }
     ensures out { result ≡ Err Stop.OutOfSteps → work.new.counter.used ≡ work.new.counter.limit }
 {
-    match crossing {
-        None => swap_everywhere(work, history, goal, r),
-        Some(x) => swap_across(work, history, goal, r, x),
-    }
+    let rest = clause_without(&work.bank, r.literal, goal)?;
+    let made = swap_literals(work, history, rest.as_slice(), r, crossing)?;
+    distinct_clause(&work.bank, made.as_slice())
 }
 
 fn try_moved(
@@ -221,6 +284,7 @@ pub fn swap_sides(
     requires no_value { is_value (term_at work.old.bank r.from) ≡ false }
     requires crossing { IfSome crossing (CrossingStands history.now work.old goal.now) }
     ensures moved { IfOk result (IsMove history.now work.new goal.now) }
+    ensures leads { IfOk result (λ moved. goals_at work.new.bank moved.children.items ≡ swapped_goal work.old.bank r crossing goal.now ∷ []) }
     ensures grows { WorkGrows history.now work.old work.new }
     ensures out { result ≡ Err Stop.OutOfSteps → work.new.counter.used ≡ work.new.counter.limit }
 {

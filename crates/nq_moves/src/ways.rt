@@ -1,10 +1,14 @@
 //! SUBST and IRR of the first candidate, and the ways back from the goals to which moves led.
-ghost use Rattle.std.specs.Prelude.{◌≡◌, All, IfOk, IfSome, Err};
+ghost use Rattle.std.specs.Prelude.{◌≡◌, [], All, IfOk, IfSome, MatchOption, Err, None, Ok};
 ghost use Rattle.nq_bank.specs.Content.{terms_at};
+ghost use Rattle.nq_history.specs.Events.{events_at};
+ghost use Rattle.nq_goals.specs.Dropping.{DropMove, droppings_of};
+ghost use Rattle.nq_goals.specs.Substituting.{SubstituteMove, substitutions_of};
 ghost use Rattle.nq_kernel.specs.Growing.{WorkStands, WorkGrows};
 ghost use Rattle.nq_lines.specs.Lines.{IsTermIn, LineHasOnly};
 ghost use Rattle.nq_moves.specs.Dropped.{HoldChildren};
 ghost use Rattle.nq_moves.specs.Found.{goals_at};
+ghost use Rattle.nq_moves.specs.OfTable.{IsOfTable};
 ghost use Rattle.nq_moves.specs.Ways.{IsWay, IsMove};
 
 use crate::crossing::close_swapped;
@@ -16,7 +20,8 @@ use nq_bank::TermId;
 use nq_history::{Hints, History};
 use nq_kernel::{MoveKind, Stop, Work};
 
-/// SUBST: a variable of the goal is replaced by what it equals, and the equation is used up.
+/// SUBST: a variable of the goal is replaced by what it equals, and the equation is used up. It is none exactly where there is no
+/// candidate, and then uses no steps.
 pub fn substitute_move(
     work: &mut Work,
     history: &History,
@@ -26,13 +31,17 @@ pub fn substitute_move(
     requires stands { WorkStands history.now work.old }
     requires goal { All (IsTermIn history.now work.old) goal.now }
     ensures moved { IfOk result (λ found. IfSome found (IsMove history.now work.new goal.now)) }
+    ensures legal { IfOk result (λ found. MatchOption found (substitutions_of (terms_at work.old.bank goal.now) ≡ []) (IsOfTable (SubstituteMove (events_at work.old.bank history.now)) work.old.bank work.new.bank goal.now)) }
+    ensures none { result ≡ Ok None → work.new ≡ work.old }
+    ensures candidate { result ≡ Err Stop.OutOfSteps → substitutions_of (terms_at work.old.bank goal.now) ≡ [] → ⊥ }
     ensures grows { WorkGrows history.now work.old work.new }
     ensures out { result ≡ Err Stop.OutOfSteps → work.new.counter.used ≡ work.new.counter.limit }
 {
     substitute_first(work, history, goal)
 }
 
-/// IRR: literals that have nothing to do with the others are dropped.
+/// IRR: literals that have nothing to do with the others are dropped. It is none exactly where there is no candidate, and never uses
+/// steps.
 pub fn irrelevant_move(
     work: &mut Work,
     history: &History,
@@ -42,6 +51,9 @@ pub fn irrelevant_move(
     requires stands { WorkStands history.now work.old }
     requires goal { All (IsTermIn history.now work.old) goal.now }
     ensures moved { IfOk result (λ found. IfSome found (IsMove history.now work.new goal.now)) }
+    ensures legal { IfOk result (λ found. MatchOption found (droppings_of (events_at work.old.bank history.now) (terms_at work.old.bank goal.now) ≡ []) (IsOfTable (DropMove (events_at work.old.bank history.now)) work.old.bank work.new.bank goal.now)) }
+    ensures same { work.new ≡ work.old }
+    ensures steps { result ≡ Err Stop.OutOfSteps → ⊥ }
     ensures grows { WorkGrows history.now work.old work.new }
     ensures out { result ≡ Err Stop.OutOfSteps → work.new.counter.used ≡ work.new.counter.limit }
 {

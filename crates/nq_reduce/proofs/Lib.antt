@@ -6,3 +6,4 @@ pub mod DroppingLemmas
 pub mod ValueLemmas
 pub mod StepLemmas
 pub mod ShellLemmas
+pub mod EqualLemmas

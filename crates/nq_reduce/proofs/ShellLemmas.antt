@@ -1,8 +1,8 @@
--- Equations that each literal of a line leads to, and terms that are true where their NOT is assumed.
-use Rattle.std.proofs.Common.{◌≡◌, ◌∷◌, ◌∙◌, ℕ, true, List, Option, Some, None, refl, sym, ap, subst, inl, inr}
+-- Equations that each literal of a line leads to, and terms that are divided by a test.
+use Rattle.std.proofs.Common.{◌≡◌, ◌∷◌, [], ◌∙◌, ℕ, true, false, List, Option, Some, None, refl, sym, ap, subst, inl, inr}
 use Rattle.std.specs.Prelude.{Result, IfOk, IfSome, codes}
 use Rattle.nq_logic.specs.Terms.{Term, IsAmong}
-use Rattle.nq_logic.specs.Words.{equal_term, not_term}
+use Rattle.nq_logic.specs.Words.{equal_term, if_term, not_term}
 use Rattle.nq_bank.specs.declared.node.TermId.{TermId}
 use Rattle.nq_bank.specs.Content.{IsIdOf, term_at, terms_at}
 use Rattle.nq_bank.proofs.Standing.{id_grown}
@@ -10,19 +10,21 @@ use Rattle.nq_rule.proofs.Made.{for_ok}
 use Rattle.nq_history.specs.declared.entry.Entry.{Entry}
 use Rattle.nq_kernel.specs.declared.work.Work.{Work}
 use Rattle.nq_kernel.specs.declared.work.Stop.{Stop}
-use Rattle.nq_kernel.specs.Growing.{WorkGrows}
-use Rattle.nq_lines.specs.Lines.{AreAmong, CutsTo, IsTermIn, LineHasOnly, MakesOf}
+use Rattle.nq_kernel.specs.Growing.{WorkStands, WorkGrows}
+use Rattle.nq_kernel.proofs.GrowingLemmas.{WorkGrows-trans}
+use Rattle.nq_lines.specs.Lines.{AreAmong, CutsTo, IsTermIn, LineHasOnly, MakesOf, TurnsTo}
 use Rattle.nq_lines.specs.declared.facts.Sides.{Sides}
-use Rattle.nq_lines.proofs.Among.{and_among}
+use Rattle.nq_lines.proofs.Among.{and_among, beside, none_among}
 use Rattle.nq_lines.proofs.LineLemmas.{only_grown, only_more}
 use Rattle.nq_lines.proofs.TermLemmas.{term_grown, same_term_grown}
-use Rattle.nq_instances.specs.Parts.{AreSides}
+use Rattle.nq_instances.specs.Parts.{AreSides, IsIfOf}
+use Rattle.nq_instances.proofs.PartLemmas.{if_grown}
 use Rattle.nq_reduce.specs.declared.knowledge.Known.{Known}
 use Rattle.nq_reduce.specs.declared.results.Rewritten.{Rewritten}
 use Rattle.nq_reduce.specs.Clauses.{DropsTo}
 use Rattle.nq_reduce.specs.Equations.{IsAssumed}
-use Rattle.nq_reduce.specs.Rewriting.{CanRewrite, IsKnown, IsRewritten, IsShown, denials}
-use Rattle.nq_reduce.proofs.RewritingLemmas.{known_true, terms_same}
+use Rattle.nq_reduce.specs.Rewriting.{CanRewrite, IsArgument, IsKnown, IsRewritten, IsShown, ShowsEqual, denials}
+use Rattle.nq_reduce.proofs.RewritingLemmas.{if_made, known_true, terms_same}
 
 module _ (history : List Entry) (old new : Work) (grows : WorkGrows history old new) where
   -- a NOT that was made just now
@@ -100,3 +102,63 @@ withdrawn_known old new assumed t d k n denies is known makes =
     exchanged u (inl e) = inr (inl e)
     exchanged u (inr (inl e)) = inl e
     exchanged u (inr (inr m)) = inr (inr m)
+
+-- an argument is a term
+pub arguments_there : (history : List Entry) (work : Work) (t : TermId) (place : ℕ) (r : Option TermId) → IfSome r (IsArgument history work t place) → IfSome r (IsTermIn history work)
+arguments_there history work t place None h = tt
+arguments_there history work t place (Some a) h = h.argument
+
+-- the IF is made, then its equation with the term, and this is turned round
+pub doubled_to : (history : List Entry) (old one two three : Work) (assumed : List Term) (t p whole : TermId) (same line : ℕ) → WorkGrows history old one → WorkGrows history one two → WorkGrows history two three → IsTermIn history old t → IsTermIn history old p → IsTermIn history one whole →
+    IsIdOf one.bank whole (if_term (term_at old.bank p) (term_at old.bank t) (term_at old.bank t)) → LineHasOnly two same (equal_term (if_term (term_at one.bank p) (term_at one.bank t) (term_at one.bank t)) (term_at one.bank t) ∷ []) →
+    TurnsTo two three (term_at two.bank whole) (term_at two.bank t) same line → IsRewritten history three assumed (term_at old.bank t) (record { term = whole; line = Some line })
+doubled_to history old one two three assumed t p whole same line g1 g2 g3 there test there_whole is shown turns =
+    let u : Term = term_at old.bank t in
+    let u1 : Term = term_at one.bank t in
+    let q1 : Term = term_at one.bank p in
+    let one_u : u1 ≡ u = same_term_grown history old one t g1 there in
+    let one_q : q1 ≡ term_at old.bank p = same_term_grown history old one p g1 test in
+    let two_u : term_at two.bank t ≡ u = same_term_grown history old two t (WorkGrows-trans history old one two g1 g2) there in
+    let two_whole : term_at two.bank whole ≡ term_at one.bank whole = same_term_grown history one two whole g2 there_whole in
+    let in_two : IsTermIn history two whole = term_grown history one two whole g1.stands g2 there_whole in
+    let three_whole : term_at three.bank whole ≡ term_at two.bank whole = same_term_grown history two three whole g3 in_two in
+    let parts : if_term q1 u1 u1 ≡ term_at two.bank whole = ap (λ x. if_term x u1 u1) one_q ∙ ap (λ x. if_term (term_at old.bank p) x x) one_u ∙ sym is.denotes ∙ sym two_whole in
+    let e : Term = equal_term (term_at two.bank whole) (term_at two.bank t) in
+    let here : LineHasOnly two same (e ∷ []) =
+    subst (λ v. LineHasOnly two same (equal_term v (term_at two.bank t) ∷ [])) parts (
+    subst (λ v. LineHasOnly two same (equal_term (if_term q1 u1 u1) v ∷ [])) (one_u ∙ sym two_u) shown) in
+    let turned : LineHasOnly three line (equal_term (term_at two.bank t) (term_at two.bank whole) ∷ denials assumed) = turns (denials assumed) (only_more two same (e ∷ []) (e ∷ denials assumed) (beside e [] (denials assumed) (none_among (denials assumed))) here) in
+    record {
+      new = term_grown history two three whole g2.stands g3 in_two;
+      shown =
+          subst (λ v. LineHasOnly three line (equal_term u v ∷ denials assumed)) (sym three_whole) (
+          subst (λ v. LineHasOnly three line (equal_term v (term_at two.bank whole) ∷ denials assumed)) two_u turned);
+    }
+
+-- its parts
+pub doubled_parts : (history : List Entry) (old one new : Work) (whole p t : TermId) → WorkStands history old → WorkGrows history old one → WorkGrows history one new → IsTermIn history old p → IsTermIn history old t → IsTermIn history one whole → IsIdOf one.bank whole (if_term (term_at old.bank p) (term_at old.bank t) (term_at old.bank t)) → IsIfOf history new whole (record { test = p; first = t; second = t })
+doubled_parts history old one new whole p t stands first second test there over is = if_grown history one new second whole (record { test = p; first = t; second = t }) first.stands over (if_made history old one whole p t t stands first test there there is)
+
+-- the line of a rewriting
+pub shown_line : (history : List Entry) (work : Work) (assumed : List Term) (t : Term) (r : Rewritten) (n : ℕ) → r.line ≡ Some n → IsRewritten history work assumed t r → ShowsEqual work n assumed t (term_at work.bank r.term)
+shown_line history work assumed t r n is h = subst (IsShown work assumed t (term_at work.bank r.term)) is h.shown
+
+-- a rewriting of what is assumed, where that is shown
+pub discharged : (history : List Entry) (old new : Work) (assumed : List Term) (t : Term) (r : Rewritten) (line n shown : ℕ) → WorkStands history old → WorkGrows history old new → LineHasOnly old line (t ∷ denials assumed) → r.line ≡ Some n → IsRewritten history old (t ∷ assumed) t r → CutsTo old new t line n shown → IsRewritten history new assumed t (record { term = r.term; line = Some shown })
+discharged history old new assumed t r line n shown stands grows known is h cuts =
+    let e : Term = equal_term t (term_at old.bank r.term) in
+    record {
+      new = term_grown history old new r.term stands grows h.new;
+      shown =
+          subst (λ w. LineHasOnly new shown (equal_term t w ∷ denials assumed)) (sym (same_term_grown history old new r.term grows h.new)) (
+          cuts (e ∷ denials assumed) (only_more old line (t ∷ denials assumed) (t ∷ e ∷ denials assumed) one known) (only_more old n (e ∷ not_term t ∷ denials assumed) (not_term t ∷ e ∷ denials assumed) two (shown_line history old (t ∷ assumed) t r n is h)));
+    }
+  where
+    one : (u : Term) → IsAmong u (t ∷ denials assumed) → IsAmong u (t ∷ equal_term t (term_at old.bank r.term) ∷ denials assumed)
+    one u (inl k) = inl k
+    one u (inr m) = inr (inr m)
+
+    two : (u : Term) → IsAmong u (equal_term t (term_at old.bank r.term) ∷ not_term t ∷ denials assumed) → IsAmong u (not_term t ∷ equal_term t (term_at old.bank r.term) ∷ denials assumed)
+    two u (inl k) = inr (inl k)
+    two u (inr (inl k)) = inl k
+    two u (inr (inr m)) = inr (inr m)

@@ -8,7 +8,7 @@ ghost use Rattle.nq_lines.specs.Lines.{IsTermIn, LineHasOnly};
 ghost use Rattle.nq_reduce.specs.Clauses.{AreLiterals, DropsTo};
 ghost use Rattle.nq_reduce.specs.Rewriting.{CanRewrite, IsKnown, denials};
 
-use crate::knowledge::Known;
+use crate::knowledge::{Known, known_false};
 use crate::settling::settled;
 use crate::values::is_falsity;
 use nq_bank::{TermId, ground};
@@ -152,9 +152,27 @@ fn without_term(
     ensures grows { WorkGrows history.now work.old work.new }
     ensures out { result ≡ Err Stop.OutOfSteps → work.new.counter.used ≡ work.new.counter.limit }
 {
-    match settled(work, history, assumed, t)? {
+    match denied_or_settled(work, history, assumed, t)? {
         Some(known) => without_known(work, history, assumed, t, line, known),
         None => Ok(None),
+    }
+}
+
+/// That a term is false, where its NOT is assumed, though it may be assumed too; or else what is known of it at once.
+fn denied_or_settled(
+    work: &mut Work,
+    history: &History,
+    assumed: &[TermId],
+    t: TermId,
+) -> Result<Option<Known>, Stop>
+    requires can { CanRewrite history.now work.old assumed.now t }
+    ensures known { IfOk result (λ found. IfSome found (λ known. IsKnown work.new (terms_at work.old.bank assumed.now) (term_at work.old.bank t) known)) }
+    ensures grows { WorkGrows history.now work.old work.new }
+    ensures out { result ≡ Err Stop.OutOfSteps → work.new.counter.used ≡ work.new.counter.limit }
+{
+    match known_false(work, history, assumed, t)? {
+        Some(known) => Ok(Some(known)),
+        None => settled(work, history, assumed, t),
     }
 }
 

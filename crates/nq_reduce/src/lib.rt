@@ -50,6 +50,12 @@ mod trials;
 // the kinds of objects just made
 mod made;
 
+// objects just made: what they were made of, and which parts of two are one
+mod alike;
+mod part_cases;
+mod same_parts;
+mod unequal;
+
 // an object as made of its parts, and what each case of it leads to
 mod cases;
 mod moved;
@@ -58,6 +64,8 @@ mod parted;
 // the mechanisms
 mod bases;
 mod distinct;
+mod divided;
+mod equal_parts;
 mod equations;
 mod recognizing;
 mod restricted;

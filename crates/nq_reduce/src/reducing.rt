@@ -6,6 +6,8 @@ ghost use Rattle.nq_reduce.specs.Rewriting.{CanRewrite, IsRewritten};
 
 use crate::bases::by_base;
 use crate::distinct::by_distinct;
+use crate::divided::by_divided_part;
+use crate::equal_parts::by_equal_parts;
 use crate::equations::by_assumed_equation;
 use crate::recognizing::by_kind;
 use crate::results::Rewritten;
@@ -132,6 +134,46 @@ fn reduce_by_distinct(
     if step.line.is_some() {
         Ok(step)
     } else {
-        by_base(work, history, assumed, t)
+        reduce_by_base(work, history, assumed, t)
+    }
+}
+
+/// The same, where it is no equation of terms of different kinds.
+fn reduce_by_base(
+    work: &mut Work,
+    history: &History,
+    assumed: &[TermId],
+    t: TermId,
+) -> Result<Rewritten, Stop>
+    requires can { CanRewrite history.now work.old assumed.now t }
+    ensures ok { IfOk result (λ r. IsRewritten history.now work.new (terms_at work.old.bank assumed.now) (term_at work.old.bank t) r) }
+    ensures grows { WorkGrows history.now work.old work.new }
+    ensures out { result ≡ Err Stop.OutOfSteps → work.new.counter.used ≡ work.new.counter.limit }
+{
+    let step = by_base(work, history, assumed, t)?;
+    if step.line.is_some() {
+        Ok(step)
+    } else {
+        reduce_by_parts(work, history, assumed, t)
+    }
+}
+
+/// The same, where it is no equation of an object just made and the base.
+fn reduce_by_parts(
+    work: &mut Work,
+    history: &History,
+    assumed: &[TermId],
+    t: TermId,
+) -> Result<Rewritten, Stop>
+    requires can { CanRewrite history.now work.old assumed.now t }
+    ensures ok { IfOk result (λ r. IsRewritten history.now work.new (terms_at work.old.bank assumed.now) (term_at work.old.bank t) r) }
+    ensures grows { WorkGrows history.now work.old work.new }
+    ensures out { result ≡ Err Stop.OutOfSteps → work.new.counter.used ≡ work.new.counter.limit }
+{
+    let step = by_equal_parts(work, history, assumed, t)?;
+    if step.line.is_some() {
+        Ok(step)
+    } else {
+        by_divided_part(work, history, assumed, t)
     }
 }

@@ -47,7 +47,7 @@ pub fn settled(
 }
 
 /// That the recognizer of a restricted part holds.
-fn told_by_part(
+pub fn told_by_part(
     work: &mut Work,
     history: &History,
     assumed: &[TermId],

@@ -14,6 +14,7 @@ use nq_bank::{Bank, Node, Sym, TermId};
 use nq_history::History;
 use nq_kernel::{Stop, Work};
 use nq_lines::{Fact, is_same, literal_of, matched_fact, row_fact, sides_of};
+use nq_reduce::argument_of;
 
 /// The line that shows of what kind the calls of a function are, if one is known.
 pub fn kind_line(work: &Work, history: &History, f: Sym) -> Option<u64>
@@ -143,6 +144,26 @@ fn kind_by_definition(
 {
     match sides_of(work, history, definition.term) {
         Some(sides) => kind_by_pattern(work, history, f, sides.left, t),
+        None => kind_by_row(work, history, definition, t),
+    }
+}
+
+/// The same, by a row that says itself of what kind the calls of the function are, as that of COUNT does.
+fn kind_by_row(
+    work: &mut Work,
+    history: &History,
+    row: Fact,
+    t: TermId,
+) -> Result<Option<Fact>, Stop>
+    requires stands { WorkStands history.now work.old }
+    requires row { IsFact history.now work.old row }
+    requires term { IsTermIn history.now work.old t }
+    ensures fact { IfOk result (λ found. IfSome found (IsFact history.now work.new)) }
+    ensures grows { WorkGrows history.now work.old work.new }
+    ensures out { result ≡ Err Stop.OutOfSteps → work.new.counter.used ≡ work.new.counter.limit }
+{
+    match argument_of(work, history, row.term, 1) {
+        Some(pattern) => matched_fact(work, history, row, pattern, t),
         None => Ok(None),
     }
 }

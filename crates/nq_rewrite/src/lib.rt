@@ -24,6 +24,9 @@ mod way;
 mod kinded;
 mod kinds;
 
+// rules with variables that their left sides do not bind
+mod binding;
+
 // single steps
 mod steps;
 

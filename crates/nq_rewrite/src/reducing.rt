@@ -7,6 +7,7 @@ ghost use Rattle.nq_lines.specs.Lines.{IsTermIn};
 ghost use Rattle.nq_reduce.specs.Held.{IsHeld};
 ghost use Rattle.nq_reduce.specs.Rewriting.{CanRewrite};
 
+use crate::binding::rule_at_hand;
 use crate::rewriting::rewrite_term;
 use crate::rules::{Head, is_allowed};
 use crate::search::Search;
@@ -18,7 +19,7 @@ use nq_history::History;
 use nq_instances::two_in;
 use nq_kernel::{Stop, Work};
 use nq_lines::Fact;
-use nq_reduce::{conclusion_for, part_for, rule_for};
+use nq_reduce::{conclusion_for, part_for};
 
 /// Tries the rules on a term, the newest first: those that say that a term is true, or those that say what it equals.
 #[cycle(rewriting)]
@@ -127,7 +128,7 @@ fn try_rule(
     ensures grows { WorkGrows history.now work.old work.new }
     ensures out { result ≡ Err Stop.OutOfSteps → work.new.counter.used ≡ work.new.counter.limit }
 {
-    match rule_for(work, history, assumed, name, t)? {
+    match rule_at_hand(work, history, assumed, name, t)? {
         Some(fact) => try_instance(work, history, way, search, assumed, depth, t, head, fact),
         None => Ok(None),
     }

@@ -1,12 +1,13 @@
 //! The rules of a history, by the functions of their left sides. They decide only what is tried.
 ghost use Rattle.nq_bank.specs.Content.{Stands};
 ghost use Rattle.nq_history.specs.Events.{HistoryStands};
-ghost use Rattle.std.specs.Prelude.{◌<◌, length};
+ghost use Rattle.std.specs.Prelude.{◌≡◌, ◌<◌, Err, length};
 
 use crate::terms::{has_name, is_before, is_walked};
 use nq_bank::{Bank, Node, Sym, TermId, ground};
 use nq_clause::match_term;
 use nq_history::{Class, Entry, EntryKind, Hints, History};
+use nq_kernel::Stop;
 use nq_rules::{conclusion_of, left_side, two_of};
 use std::alloc::AllocError;
 
@@ -70,6 +71,18 @@ fn is_instance(bank: &Bank, pattern: TermId, t: TermId) -> Result<bool, AllocErr
 {
     let mut bindings = Vec::new(bank.alloc());
     match_term(bank, pattern, t, &mut bindings)
+}
+
+/// The same, where a lack of memory stops the work.
+pub fn takes(bank: &Bank, pattern: TermId, t: TermId) -> Result<bool, Stop>
+    requires pattern { Stands bank.now pattern }
+    requires term { Stands bank.now t }
+    ensures memory { result ≡ Err Stop.OutOfSteps → ⊥ }
+{
+    match is_instance(bank, pattern, t) {
+        Ok(found) => Ok(found),
+        Err(_) => Err(Stop::Memory),
+    }
 }
 
 /// Adds the left side of a part of a conclusion.

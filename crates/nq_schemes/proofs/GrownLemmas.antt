@@ -12,6 +12,7 @@ use Rattle.nq_history.specs.declared.entry.Entry.{Entry}
 use Rattle.nq_kernel.specs.declared.work.Work.{Work}
 use Rattle.nq_kernel.specs.Growing.{WorkStands, WorkGrows}
 use Rattle.nq_lines.specs.Lines.{IsTermIn, LineHasOnly}
+use Rattle.nq_lines.proofs.FactLemmas.{own_terms_grown}
 use Rattle.nq_lines.proofs.LineLemmas.{only_grown, line_grown}
 use Rattle.nq_lines.proofs.TermLemmas.{term_grown, same_term_grown}
 use Rattle.nq_lines.proofs.InstanceLemmas.{pairs_in_grown}
@@ -65,6 +66,7 @@ module _ (history : List Entry) (old new : Work) (stands : WorkStands history ol
         measure = kept.term;
         ordinal = kept.line;
         shown = shown_truth_grown history old new stands grows b.shown h.shown;
+        own = own_terms_grown history old new grows stands h.own;
       }
 
   pub start_grown : (s : InductionStep) → IsStartIn history old s → IsStartIn history new s

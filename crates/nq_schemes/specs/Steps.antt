@@ -4,10 +4,12 @@ use Rattle.nq_logic.specs.Words.{call1}
 use Rattle.nq_bank.specs.Content.{term_at}
 use Rattle.nq_rule.specs.declared.induction.InductionStep.{InductionStep}
 use Rattle.nq_history.specs.declared.entry.Entry.{Entry}
+use Rattle.nq_history.specs.Events.{events_at}
 use Rattle.nq_kernel.specs.declared.work.Work.{Work}
 use Rattle.nq_kernel.specs.Growing.{LineStands}
 use Rattle.nq_lines.specs.Lines.{IsTermIn, LineHasOnly}
 use Rattle.nq_lines.specs.Instances.{ArePairsIn}
+use Rattle.nq_lines.specs.OwnTerms.{HasOwnTerms}
 use Rattle.nq_lines.specs.declared.facts.Fact.{Fact}
 use Rattle.nq_induct.specs.Claims.{IsShownTruth}
 use Rattle.nq_schemes.specs.Known.{IsNameOf, IsOpenedIn}
@@ -23,13 +25,15 @@ pub record IsOrdinalIn (history : List Entry) (work : Work) (f : Fact) : Type 0 
   pub term : IsTermIn history work f.term
   pub line : LineHasOnly work f.line (call1 "ORDINALP" (term_at work.bank f.term) ∷ [])
 
--- the calls and the variable are over the history, and a line shows that the measure is an ordinal
+-- the calls and the variable are over the history, whose axioms and lemmas are over its own functions, and a line shows that the
+-- measure is an ordinal
 pub record IsBasisIn (history : List Entry) (work : Work) (b : Basis) : Type 0 where
   pub opened : All (IsOpenedIn history work) b.opened.items
   pub sized : IfSome b.sized (IsSizedIn history work)
   pub measure : IsTermIn history work b.measure
   pub ordinal : LineHasOnly work b.ordinal (call1 "ORDINALP" (term_at work.bank b.measure) ∷ [])
   pub shown : IsShownTruth history work b.shown
+  pub own : HasOwnTerms (events_at work.bank history)
 
 -- the step's line stands, and its pairs are distinct variables with terms over the history
 pub record IsStartIn (history : List Entry) (work : Work) (s : InductionStep) : Type 0 where

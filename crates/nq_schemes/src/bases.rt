@@ -5,6 +5,8 @@ ghost use Rattle.nq_lines.specs.Lines.{IsTermIn};
 ghost use Rattle.nq_lines.specs.Instances.{ArePairsIn};
 ghost use Rattle.nq_schemes.specs.Known.{IsOpenedIn};
 ghost use Rattle.nq_schemes.specs.Steps.{IsBasisIn, IsOrdinalIn, IsSizedIn};
+ghost use Rattle.nq_history.specs.Events.{events_at};
+ghost use Rattle.nq_lines.specs.OwnTerms.{HasOwnTerms};
 
 use crate::basis::{Basis, SizedVariable};
 use crate::draft::Change;
@@ -119,6 +121,7 @@ fn basis_with(
     arithmetic: bool,
 ) -> Result<Basis, Stop>
     requires stands { WorkStands history.now work.old }
+    requires own { HasOwnTerms (events_at work.old.bank history.now) }
     requires opened { All (IsOpenedIn history.now work.old) opened.items }
     requires sized { IfSome sized (IsSizedIn history.now work.old) }
     requires ordinal { IsOrdinalIn history.now work.old ordinal }
@@ -146,6 +149,7 @@ fn basis_of_size(
     arithmetic: bool,
 ) -> Result<Option<Basis>, Stop>
     requires stands { WorkStands history.now work.old }
+    requires own { HasOwnTerms (events_at work.old.bank history.now) }
     requires opened { All (IsOpenedIn history.now work.old) opened.items }
     ensures basis { IfOk result (λ found. IfSome found (IsBasisIn history.now work.new)) }
     ensures grows { WorkGrows history.now work.old work.new }
@@ -171,6 +175,7 @@ fn basis_of_measure(
     arithmetic: bool,
 ) -> Result<Option<Basis>, Stop>
     requires stands { WorkStands history.now work.old }
+    requires own { HasOwnTerms (events_at work.old.bank history.now) }
     requires opened { All (IsOpenedIn history.now work.old) opened.items }
     ensures basis { IfOk result (λ found. IfSome found (IsBasisIn history.now work.new)) }
     ensures grows { WorkGrows history.now work.old work.new }
@@ -195,6 +200,7 @@ pub fn basis_of(
     arithmetic: bool,
 ) -> Result<Option<Basis>, Stop>
     requires stands { WorkStands history.now work.old }
+    requires own { HasOwnTerms (events_at work.old.bank history.now) }
     requires opened { All (IsOpenedIn history.now work.old) opened.items }
     ensures basis { IfOk result (λ found. IfSome found (IsBasisIn history.now work.new)) }
     ensures grows { WorkGrows history.now work.old work.new }

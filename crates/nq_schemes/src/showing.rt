@@ -2,9 +2,11 @@
 ghost use Rattle.std.specs.Prelude.{◌≡◌, All, IfOk, IfSome, Err};
 ghost use Rattle.nq_kernel.specs.Growing.{WorkStands, WorkGrows, LineStands};
 ghost use Rattle.nq_lines.specs.Lines.{IsTermIn};
+ghost use Rattle.nq_history.specs.Events.{events_at};
+ghost use Rattle.nq_lines.specs.OwnTerms.{HasOwnTerms};
 
 use crate::plain::{plain_goal, spelled_line};
-use nq_arithmetic::arithmetic_line;
+use nq_arithmetic::arithmetic_line_by_lemmas;
 use nq_bank::TermId;
 use nq_descents::descent_line;
 use nq_history::{Hints, History};
@@ -40,21 +42,23 @@ fn shell_line(work: &mut Work, history: &History, goal: &[TermId]) -> Result<Opt
     }
 }
 
-/// The line that one of some literals without double denials holds, by linear arithmetic.
+/// The line that one of some literals without double denials holds, by linear arithmetic, also with lemmas of the history.
 fn plain_line(work: &mut Work, history: &History, goal: &[TermId]) -> Result<Option<u64>, Stop>
     requires stands { WorkStands history.now work.old }
+    requires own { HasOwnTerms (events_at work.old.bank history.now) }
     requires goal { All (IsTermIn history.now work.old) goal.now }
     ensures line { IfOk result (λ found. IfSome found (LineStands work.new)) }
     ensures grows { WorkGrows history.now work.old work.new }
     ensures out { result ≡ Err Stop.OutOfSteps → work.new.counter.used ≡ work.new.counter.limit }
 {
     let hints = no_hints(work.bank.alloc());
-    arithmetic_line(work, history, &hints, goal)
+    arithmetic_line_by_lemmas(work, history, &hints, goal)
 }
 
 /// The line that one of some literals holds, by linear arithmetic.
 fn linear_line(work: &mut Work, history: &History, goal: &[TermId]) -> Result<Option<u64>, Stop>
     requires stands { WorkStands history.now work.old }
+    requires own { HasOwnTerms (events_at work.old.bank history.now) }
     requires goal { All (IsTermIn history.now work.old) goal.now }
     ensures line { IfOk result (λ found. IfSome found (LineStands work.new)) }
     ensures grows { WorkGrows history.now work.old work.new }
@@ -80,6 +84,7 @@ pub fn shown_line(
     goal: &[TermId],
 ) -> Result<Option<u64>, Stop>
     requires stands { WorkStands history.now work.old }
+    requires own { HasOwnTerms (events_at work.old.bank history.now) }
     requires goal { All (IsTermIn history.now work.old) goal.now }
     ensures line { IfOk result (λ found. IfSome found (LineStands work.new)) }
     ensures grows { WorkGrows history.now work.old work.new }

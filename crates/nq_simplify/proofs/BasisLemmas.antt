@@ -1,7 +1,6 @@
 -- What each simplification uses, as the work grows.
-use Rattle.std.proofs.Common.{◌≡◌, ℕ, List, [], ◌∷◌, refl, sym, ap, ◌∙◌, subst, inl, inr}
+use Rattle.std.proofs.Common.{◌≡◌, ℕ, List, [], ◌∷◌, sym, ◌∙◌, subst}
 use Rattle.std.specs.Prelude.{codes, true, false}
-use Rattle.nq_logic.specs.Terms.{Term}
 use Rattle.nq_logic.specs.Words.{not_term, equal_term, true_term, false_term}
 use Rattle.nq_bank.specs.declared.node.TermId.{TermId}
 use Rattle.nq_bank.specs.Content.{IsIdOf, term_at}

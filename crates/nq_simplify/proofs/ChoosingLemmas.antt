@@ -1,6 +1,6 @@
 -- The parts of a choice are over the history's functions.
-use Rattle.std.proofs.Common.{◌≡◌, ℕ, zero, suc, ◌==◌, Bool, true, false, Option, Some, None, List, [], ◌∷◌, ◌⊎◌, refl, sym, ap, ◌∙◌, subst, inl, inr}
-use Rattle.std.specs.Prelude.{Result, Ok, Err, IfOk, MatchOption, nat_eq}
+use Rattle.std.proofs.Common.{◌≡◌, ℕ, suc, ◌==◌, true, Option, Some, None, List, [], ◌∷◌, ◌⊎◌, sym, ap, ◌∙◌, subst, inl, inr}
+use Rattle.std.specs.Prelude.{MatchOption, nat_eq}
 use Rattle.std.specs.HashMap.{get, IsEmpty}
 use Rattle.std.specs.Map.{lookup}
 use Rattle.nq_logic.specs.Terms.{Name, Term, Variable, Function, Applied}
@@ -10,21 +10,20 @@ use Rattle.nq_logic.specs.Ground.{symbols_of}
 use Rattle.nq_logic.specs.Histories.{History}
 use Rattle.nq_logic.proofs.Replacements.{replaced_over}
 use Rattle.nq_bank.specs.declared.node.TermId.{TermId}
-use Rattle.nq_bank.specs.declared.node.BankFault.{BankFault}
-use Rattle.nq_bank.specs.Content.{Content, Stands, IsIdOf, term_at}
+use Rattle.nq_bank.specs.Content.{Content, term_at}
 use Rattle.nq_proof.specs.Paths.{argument_count, around, in_argument, replaced_at}
 use Rattle.nq_proof.proofs.Tests.{chosen_some, none_is_not_some, some_same}
 use Rattle.nq_proof.proofs.Places.{replaced_is}
 use Rattle.nq_history.specs.declared.entry.Entry.{Entry}
 use Rattle.nq_history.specs.Events.{events_at}
 use Rattle.nq_kernel.specs.declared.work.Work.{Work}
-use Rattle.nq_kernel.specs.Over.{IsVariable, VariablesAre, IsTermOf}
+use Rattle.nq_kernel.specs.Over.{IsVariable, VariablesAre}
 use Rattle.nq_lines.specs.Lines.{IsTermIn}
 use Rattle.nq_lines.proofs.TermLemmas.{id_in}
 use Rattle.nq_cases.specs.Counts.{KnownCounts, HasCounts}
 use Rattle.nq_cases.specs.Paths.{IsIfFree}
 use Rattle.nq_cases.specs.declared.choosing.Choice.{Choice}
-use Rattle.nq_cases.specs.Choices.{ChoiceOf, parts_at}
+use Rattle.nq_cases.specs.Choices.{ChoiceOf}
 use Rattle.nq_simplify.specs.Splitting.{IsChoiceIn}
 
 around_told : (wrap : Term → Term) (o : Option (Term × Term)) (u b : Term) → around wrap o ≡ Some (u, b) → (v : Term) × (o ≡ Some (u, v)) × (wrap v ≡ b)

@@ -1,6 +1,6 @@
 -- A literal that is denied twice.
-use Rattle.std.proofs.Common.{◌≡◌, ℕ, List, [], ◌∷◌, sym, ap, ◌∙◌, subst, inl, inr}
-use Rattle.nq_logic.specs.Terms.{Term, IsAmong}
+use Rattle.std.proofs.Common.{◌≡◌, ℕ, List, [], ◌∷◌, ap, ◌∙◌, subst, inl, inr}
+use Rattle.nq_logic.specs.Terms.{Term}
 use Rattle.nq_logic.specs.Words.{not_term, equal_term}
 use Rattle.nq_bank.specs.declared.node.TermId.{TermId}
 use Rattle.nq_bank.specs.Content.{IsIdOf, term_at}

@@ -17,7 +17,7 @@ use Rattle.nq_lines.proofs.LineLemmas.{only_more}
 use Rattle.nq_simplify.specs.declared.way.Way.TheVariants.{Goal}
 use Rattle.nq_simplify.specs.declared.basis.Basis.{Basis}
 use Rattle.nq_simplify.specs.declared.steps.Simplified.{Simplified}
-use Rattle.nq_simplify.specs.Ways.{WayStands, IsKept, InGoal, IsFalse, IsThinned, LeadsTo, Leaves}
+use Rattle.nq_simplify.specs.Ways.{WayStands, IsKept, InGoal, IsFalse, LeadsTo, Leaves}
 use Rattle.nq_simplify.specs.Simplified.{AreTermsIn, BasisStands, IsSimplified, literals_but}
 
 module _ (work : Work) (f : TermId) (n : ℕ) (is : term_at work.bank f ≡ false_term) (line : LineHasOnly work n (not_term false_term ∷ [])) where

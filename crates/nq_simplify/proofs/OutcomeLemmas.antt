@@ -1,5 +1,5 @@
 -- What is done to a goal next.
-use Rattle.std.proofs.Common.{◌≡◌, ℕ, ◌+◌, ◌<◌, List, [], ◌∷◌, ◌++◌, length, take, drop, get_or, sym, ap, ◌∙◌, Option, Some, subst, inl, inr, arith}
+use Rattle.std.proofs.Common.{◌≡◌, ℕ, ◌+◌, ◌<◌, List, [], ◌∷◌, ◌++◌, length, take, drop, get_or, sym, ap, ◌∙◌, Option, Some, None, subst, inl, inr, arith}
 use Rattle.std.specs.declared.alloc.Global.{Global}
 use Rattle.std.specs.Prelude.{Vec, IfSome}
 use Rattle.nq_logic.specs.Terms.{Term}
@@ -89,6 +89,21 @@ covers pre post t u m =
       ]
     ]
 
+-- a literal and the others are among the goal's
+pub beside_others : (history : List Entry) (w : Work) (goal others : List TermId) (i : ℕ) (d : TermId) → i < length goal → others ≡ put_in i [] goal → AreAmong (term_at w.bank (get_or goal i d) ∷ terms_at w.bank others) (terms_at w.bank goal)
+beside_others history w goal others i d below others_is =
+    let pre : List Term = terms_at w.bank (take i goal) in
+    let post : List Term = terms_at w.bank (drop (i + 1) goal) in
+    let t : Term = term_at w.bank (get_or goal i d) in
+    let goal_is : pre ++ (t ∷ post) ≡ terms_at w.bank goal = sym (around_one w goal i d below) in
+    let rest_is : (pre ++ []) ++ post ≡ terms_at w.bank others = sym (ap (terms_at w.bank) others_is ∙ put_terms w goal [] i) in
+    subst (AreAmong (t ∷ terms_at w.bank others)) goal_is (subst (λ ts. AreAmong (t ∷ ts) (pre ++ (t ∷ post))) rest_is (covers pre post t))
+
+-- a line with only some literals has only more
+pub found_more : (w : Work) (o : Option ℕ) (these more : List Term) → AreAmong these more → IfSome o (λ n. LineHasOnly w n these) → IfSome o (λ n. LineHasOnly w n more)
+found_more w None these more among h = tt
+found_more w (Some n) these more among h = only_more w n these more among h
+
 -- a literal that is rewritten under the negations of the others
 module _ (history : List Entry) (w0 w1 : Work) (s0 : WorkStands history w0) (g01 : WorkGrows history w0 w1) (goal others : List TermId) (i : ℕ) (d : TermId) (below : i < length goal) (terms : AreTermsIn history w0 goal) (others_is : others ≡ put_in i [] goal) (r : NewLiteral)
     (found : IsNewLiteral history w1 (terms_at w0.bank others) (term_at w0.bank (get_or goal i d)) r) where
@@ -99,13 +114,7 @@ module _ (history : List Entry) (w0 w1 : Work) (s0 : WorkStands history w0) (g01
   literal_is = same_term_grown history w0 w1 (get_or goal i d) g01 (terms i d below)
 
   others_among : AreAmong (term_at w0.bank (get_or goal i d) ∷ terms_at w0.bank others) (terms_at w0.bank goal)
-  others_among =
-      let pre : List Term = terms_at w0.bank (take i goal) in
-      let post : List Term = terms_at w0.bank (drop (i + 1) goal) in
-      let t : Term = term_at w0.bank (get_or goal i d) in
-      let goal_is : pre ++ (t ∷ post) ≡ terms_at w0.bank goal = sym (around_one w0 goal i d below) in
-      let rest_is : (pre ++ []) ++ post ≡ terms_at w0.bank others = sym (ap (terms_at w0.bank) others_is ∙ put_terms w0 goal [] i) in
-      subst (AreAmong (t ∷ terms_at w0.bank others)) goal_is (subst (λ ts. AreAmong (t ∷ ts) (pre ++ (t ∷ post))) rest_is (covers pre post t))
+  others_among = beside_others history w0 goal others i d below others_is
 
   -- it closes the goal where it is T
   pub closed_by_truth : (w2 : Work) (n : ℕ) → term_at w1.bank r.term ≡ true_term → MakesOf w1 w2 (equal_term (term_at w1.bank (get_or goal i d)) true_term) (term_at w1.bank (get_or goal i d)) r.line n → LineHasOnly w2 n (terms_at w0.bank goal)

@@ -1,29 +1,27 @@
 -- Simplified goals, from what their next goals are simplified to.
-use Rattle.std.proofs.Common.{◌≡◌, ℕ, zero, suc, ◌+◌, ◌<◌, ◌≤◌, List, [], ◌∷◌, ◌++◌, ◌⊎◌, length, map, take, drop, get_or, refl, sym, ap, ◌∙◌, subst, inl, inr, arith}
+use Rattle.std.proofs.Common.{◌≡◌, ℕ, List, [], ◌∷◌, ◌++◌, get_or, refl, sym, ap, ◌∙◌, subst, inr, arith}
 use Rattle.std.specs.Prelude.{All}
 use Rattle.std.proofs.lemmas.List.{map-append}
 use Rattle.std.proofs.lemmas.List.Elements.{All-append, All-head, All-tail}
-use Rattle.nq_logic.specs.Terms.{Term, IsAmong}
-use Rattle.nq_logic.specs.Words.{not_term, equal_term, false_term}
+use Rattle.nq_logic.specs.Terms.{Term}
+use Rattle.nq_logic.specs.Words.{not_term}
 use Rattle.nq_bank.specs.declared.node.TermId.{TermId}
 use Rattle.nq_bank.specs.Content.{term_at, terms_at}
 use Rattle.nq_bank.proofs.Growth.{terms_at-grown}
 use Rattle.nq_history.specs.declared.entry.Entry.{Entry}
 use Rattle.nq_kernel.specs.declared.work.Work.{Work}
-use Rattle.nq_kernel.specs.Growing.{WorkStands, WorkGrows, LineStands}
-use Rattle.nq_lines.specs.Lines.{AreAmong, LineHasOnly, IsTermIn}
-use Rattle.nq_lines.proofs.LineLemmas.{only_grown, only_more, line_grown, only_stands}
+use Rattle.nq_kernel.specs.Growing.{WorkStands, WorkGrows}
+use Rattle.nq_lines.specs.Lines.{LineHasOnly}
+use Rattle.nq_lines.proofs.LineLemmas.{line_grown, only_stands}
 use Rattle.nq_lines.proofs.TermLemmas.{term_grown, same_term_grown}
 use Rattle.nq_cases.specs.Cases.{Clauses, clauses_at}
 use Rattle.nq_simplify.specs.declared.way.Way.{Way}
-use Rattle.nq_simplify.specs.declared.way.Way.TheVariants.{Goal, Line, Rewritten', Cut'}
+use Rattle.nq_simplify.specs.declared.way.Way.TheVariants.{Line}
 use Rattle.nq_simplify.specs.declared.steps.Turn.{Turn}
 use Rattle.nq_simplify.specs.declared.steps.Split.{Split}
 use Rattle.nq_simplify.specs.declared.steps.Simplified.{Simplified}
-use Rattle.nq_simplify.specs.declared.steps.Outcome.{Outcome}
-use Rattle.nq_simplify.specs.declared.steps.Outcome.TheVariants.{Same, Closed, Turned, Divided}
-use Rattle.nq_simplify.specs.Ways.{Pointer, WayStands, IsKept, InGoal, IsFalse, IsThinned, IsRewriting, IsWidened, LeadsTo, Leaves, Shows, Turns, Divides}
-use Rattle.nq_simplify.specs.Simplified.{AreTermsIn, IsTurn, IsDivided, IsOutcome, IsSimplified, TurnsFirst, DividesFirst}
+use Rattle.nq_simplify.specs.Ways.{WayStands, IsRewriting, IsWidened, LeadsTo, Shows, Turns, Divides}
+use Rattle.nq_simplify.specs.Simplified.{AreTermsIn, IsTurn, IsDivided, IsSimplified, TurnsFirst, DividesFirst}
 use Rattle.nq_simplify.proofs.WayLemmas.{rewriting_grown, way_grown, leads_grown}
 
 -- the literals of a goal in work that grew

@@ -1,7 +1,7 @@
 -- What a split leads to.
 use Rattle.std.proofs.Common.{◌≡◌, ℕ, zero, suc, ◌+◌, ◌<◌, List, [], ◌∷◌, ◌++◌, length, take, drop, get_or, refl, sym, ap, ◌∙◌, subst, inl, inr, arith}
 use Rattle.std.specs.declared.alloc.Global.{Global}
-use Rattle.std.specs.Prelude.{Some, All, Vec, true, false}
+use Rattle.std.specs.Prelude.{Some, Vec, true, false}
 use Rattle.std.proofs.lemmas.List.{map-append}
 use Rattle.std.proofs.lemmas.List.Elements.{All-append, All-push, All-take, All-drop}
 use Rattle.nq_logic.specs.Terms.{Term, IsAmong}
@@ -10,7 +10,7 @@ use Rattle.nq_bank.specs.declared.node.TermId.{TermId}
 use Rattle.nq_bank.specs.Content.{term_at, terms_at}
 use Rattle.nq_history.specs.declared.entry.Entry.{Entry}
 use Rattle.nq_kernel.specs.declared.work.Work.{Work}
-use Rattle.nq_kernel.specs.Growing.{WorkStands, WorkGrows, LineStands}
+use Rattle.nq_kernel.specs.Growing.{WorkStands, WorkGrows}
 use Rattle.nq_lines.specs.Lines.{LineHasOnly, IsTermIn}
 use Rattle.nq_lines.proofs.LineLemmas.{only_more, only_grown, only_stands, among_either}
 use Rattle.nq_lines.proofs.TermLemmas.{term_grown, same_term_grown}

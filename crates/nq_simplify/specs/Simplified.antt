@@ -3,12 +3,12 @@ use Rattle.std.specs.Prelude.{◌≡◌, ◌+◌, ℕ, Bool, true, false, All, L
 use Rattle.nq_logic.specs.Terms.{Term}
 use Rattle.nq_logic.specs.Words.{not_term, equal_term, true_term, false_term}
 use Rattle.nq_bank.specs.declared.node.TermId.{TermId}
-use Rattle.nq_bank.specs.Content.{IsIdOf, term_at, terms_at}
+use Rattle.nq_bank.specs.Content.{term_at, terms_at}
 use Rattle.nq_history.specs.declared.entry.Entry.{Entry}
 use Rattle.nq_kernel.specs.declared.work.Work.{Work}
 use Rattle.nq_kernel.specs.Growing.{LineStands}
 use Rattle.nq_lines.specs.Lines.{LineHasOnly, IsTermIn}
-use Rattle.nq_cases.specs.Cases.{Clauses, clauses_at}
+use Rattle.nq_cases.specs.Cases.{clauses_at}
 use Rattle.nq_simplify.specs.BranchRows.{RowsStand}
 use Rattle.nq_simplify.specs.declared.way.Way.{Way}
 use Rattle.nq_simplify.specs.declared.way.Way.TheVariants.{Rewritten', Cut'}

@@ -49,6 +49,9 @@ mod denying;
 // one simplification
 mod simplifying;
 
+// goals that one literal closes
+mod shown;
+
 pub use basis::{Basis, make_basis};
 pub use closing::close;
 pub use denying::{deny_twice, same_denied_twice};
@@ -56,6 +59,7 @@ pub use inside::equation_inside;
 pub use laws::ways_simplify;
 pub use rewriter::{NewLiteral, Rewriter};
 pub use rows::{IfRows, RowNames, add_if_row, add_if_rows, add_row_at};
+pub use shown::line_of_literal;
 pub use simplifying::simplify_goal;
 pub use steps::Simplified;
 pub use way::Way;

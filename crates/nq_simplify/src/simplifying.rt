@@ -14,20 +14,22 @@ use crate::basis::Basis;
 use crate::composing::{divided, turned};
 use crate::leaving::{closed_by, leave};
 use crate::rewriter::Rewriter;
-use crate::splitting::split_first;
+use crate::splitting::split_here;
 use crate::steps::{Outcome, Simplified};
-use crate::turning::rewrite_first;
+use crate::turning::change_between;
 use nq_bank::TermId;
 use nq_history::History;
 use nq_kernel::{Stop, Work};
 
-/// What is done to a goal next: a literal is rewritten, or else the goal is split.
+/// What is done to a goal next: the literal that changed last is split, or else the next ones are rewritten or split, and then those
+/// before it.
 fn next_outcome<R: Rewriter>(
     work: &mut Work,
     history: &History,
     basis: &Basis,
     rewriter: &mut R,
     goal: &[TermId],
+    place: &mut usize,
 ) -> Result<Outcome, Stop>
     requires stands { WorkStands history.now work.old }
     requires ready { HasOwnTerms (events_at work.old.bank history.now) }
@@ -37,11 +39,37 @@ fn next_outcome<R: Rewriter>(
     ensures grows { WorkGrows history.now work.old work.new }
     ensures out { result ≡ Err Stop.OutOfSteps → work.new.counter.used ≡ work.new.counter.limit }
 {
-    let rewritten = rewrite_first(work, history, basis, rewriter, goal)?;
-    if rewritten.is_same() {
-        return split_first(work, history, basis, goal);
+    let split = split_here(work, history, basis, goal, place)?;
+    if !split.is_same() {
+        return Ok(split);
     }
-    Ok(rewritten)
+    change_next(work, history, basis, rewriter, goal, place)
+}
+
+/// Rewrites or splits the first literal that changes, from the one after a place on, and then from the first on.
+fn change_next<R: Rewriter>(
+    work: &mut Work,
+    history: &History,
+    basis: &Basis,
+    rewriter: &mut R,
+    goal: &[TermId],
+    place: &mut usize,
+) -> Result<Outcome, Stop>
+    requires stands { WorkStands history.now work.old }
+    requires ready { HasOwnTerms (events_at work.old.bank history.now) }
+    requires basis { BasisStands history.now work.old basis.now }
+    requires goal { AreTermsIn history.now work.old goal.now }
+    ensures outcome { IfOk result (λ o. IsOutcome history.now work.new (terms_at work.old.bank goal.now) o) }
+    ensures grows { WorkGrows history.now work.old work.new }
+    ensures out { result ≡ Err Stop.OutOfSteps → work.new.counter.used ≡ work.new.counter.limit }
+{
+    let count = goal.len();
+    let from = if *place < count { *place + 1 } else { 0 };
+    let later = change_between(work, history, basis, rewriter, goal, from, count, place)?;
+    if !later.is_same() {
+        return Ok(later);
+    }
+    change_between(work, history, basis, rewriter, goal, 0, from, place)
 }
 
 /// Simplifies a goal in at most so many steps in a row. The way leads from the goal to the goals that are left, and so back
@@ -62,39 +90,64 @@ pub fn simplify_goal<R: Rewriter>(
     ensures grows { WorkGrows history.now work.old work.new }
     ensures out { result ≡ Err Stop.OutOfSteps → work.new.counter.used ≡ work.new.counter.limit }
 {
+    simplify_from(work, history, basis, rewriter, goal, goal.len(), rounds)
+}
+
+/// The same, where the literal at a place changed last.
+fn simplify_from<R: Rewriter>(
+    work: &mut Work,
+    history: &History,
+    basis: &Basis,
+    rewriter: &mut R,
+    goal: &[TermId],
+    place: usize,
+    rounds: u64,
+) -> Result<Simplified, Stop>
+    requires stands { WorkStands history.now work.old }
+    requires ready { HasOwnTerms (events_at work.old.bank history.now) }
+    requires basis { BasisStands history.now work.old basis.now }
+    requires goal { AreTermsIn history.now work.old goal.now }
+    ensures simplified { IfOk result (λ s. IsSimplified history.now work.new (terms_at work.old.bank goal.now) s) }
+    ensures grows { WorkGrows history.now work.old work.new }
+    ensures out { result ≡ Err Stop.OutOfSteps → work.new.counter.used ≡ work.new.counter.limit }
+{
     if rounds == 0 {
         return leave(work, history, basis, goal);
     }
-    let outcome = next_outcome(work, history, basis, rewriter, goal)?;
+    let mut place = place;
+    let outcome = next_outcome(work, history, basis, rewriter, goal, &mut place)?;
     match outcome {
         Outcome::Same => leave(work, history, basis, goal),
         Outcome::Closed(line) => Ok(closed_by(work, history, goal, line)),
         Outcome::Turned(turn) => {
-            let rest = simplify_goal(
+            let rest = simplify_from(
                 work,
                 history,
                 basis,
                 rewriter,
                 turn.next.as_slice(),
+                place,
                 rounds - 1,
             )?;
             turned(work, history, goal, turn, rest)
         }
         Outcome::Divided(split) => {
-            let with_test = simplify_goal(
+            let with_test = simplify_from(
                 work,
                 history,
                 basis,
                 rewriter,
                 split.with_test.next.as_slice(),
+                place,
                 rounds - 1,
             )?;
-            let without_test = simplify_goal(
+            let without_test = simplify_from(
                 work,
                 history,
                 basis,
                 rewriter,
                 split.without_test.next.as_slice(),
+                place,
                 rounds - 1,
             )?;
             divided(work, history, goal, split, with_test, without_test)

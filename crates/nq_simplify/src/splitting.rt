@@ -177,12 +177,13 @@ fn split_at(
     }
 }
 
-/// Splits a goal on an IF of the first literal that has one.
-pub fn split_first(
+/// Splits a goal on an IF of the literal at a place, where it has one. What is left of the literal stands then at the next place.
+pub fn split_here(
     work: &mut Work,
     history: &History,
     basis: &Basis,
     goal: &[TermId],
+    place: &mut usize,
 ) -> Result<Outcome, Stop>
     requires stands { WorkStands history.now work.old }
     requires basis { BasisStands history.now work.old basis.now }
@@ -191,12 +192,14 @@ pub fn split_first(
     ensures grows { WorkGrows history.now work.old work.new }
     ensures out { result ≡ Err Stop.OutOfSteps → work.new.counter.used ≡ work.new.counter.limit }
 {
-    let mut known = HashMap::new(work.bank.alloc());
-    for at in 0..goal.len() {
-        let here = split_at(work, history, basis, &mut known, goal, at)?;
-        if !here.is_same() {
-            return Ok(here);
-        }
+    let at = *place;
+    if at >= goal.len() {
+        return Ok(Outcome::Same);
     }
-    Ok(Outcome::Same)
+    let mut known = HashMap::new(work.bank.alloc());
+    let here = split_at(work, history, basis, &mut known, goal, at)?;
+    if !here.is_same() {
+        *place = at + 1;
+    }
+    Ok(here)
 }

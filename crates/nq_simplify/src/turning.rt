@@ -1,5 +1,5 @@
 //! A literal of a goal is rewritten.
-ghost use Rattle.std.specs.Prelude.{◌≡◌, ◌<◌, IfOk, Err, length};
+ghost use Rattle.std.specs.Prelude.{◌≡◌, ◌<◌, ◌≤◌, IfOk, Err, length};
 ghost use Rattle.nq_bank.specs.Content.{terms_at};
 ghost use Rattle.nq_history.specs.Events.{events_at};
 ghost use Rattle.nq_kernel.specs.Growing.{WorkStands, WorkGrows};
@@ -9,6 +9,7 @@ ghost use Rattle.nq_simplify.specs.Simplified.{AreTermsIn, BasisStands, IsOutcom
 use crate::basis::Basis;
 use crate::placing::in_place;
 use crate::rewriter::Rewriter;
+use crate::splitting::split_here;
 use crate::steps::{Outcome, Turn};
 use nq_bank::TermId;
 use nq_history::History;
@@ -55,24 +56,55 @@ fn rewrite_at<R: Rewriter>(
     }
 }
 
-/// Rewrites the first literal that changes.
-pub fn rewrite_first<R: Rewriter>(
+/// Rewrites or splits the literal at an index. Where something is done, the place of what it came to is kept.
+fn change_at<R: Rewriter>(
     work: &mut Work,
     history: &History,
     basis: &Basis,
     rewriter: &mut R,
     goal: &[TermId],
+    at: usize,
+    place: &mut usize,
 ) -> Result<Outcome, Stop>
     requires stands { WorkStands history.now work.old }
     requires ready { HasOwnTerms (events_at work.old.bank history.now) }
     requires basis { BasisStands history.now work.old basis.now }
     requires goal { AreTermsIn history.now work.old goal.now }
+    requires at { at < length goal.now }
     ensures outcome { IfOk result (λ o. IsOutcome history.now work.new (terms_at work.old.bank goal.now) o) }
     ensures grows { WorkGrows history.now work.old work.new }
     ensures out { result ≡ Err Stop.OutOfSteps → work.new.counter.used ≡ work.new.counter.limit }
 {
-    for at in 0..goal.len() {
-        let here = rewrite_at(work, history, basis, rewriter, goal, at)?;
+    *place = at;
+    let here = rewrite_at(work, history, basis, rewriter, goal, at)?;
+    if here.is_same() {
+        return split_here(work, history, basis, goal, place);
+    }
+    Ok(here)
+}
+
+/// Rewrites or splits the first literal that changes, from an index on and before another one.
+pub fn change_between<R: Rewriter>(
+    work: &mut Work,
+    history: &History,
+    basis: &Basis,
+    rewriter: &mut R,
+    goal: &[TermId],
+    from: usize,
+    to: usize,
+    place: &mut usize,
+) -> Result<Outcome, Stop>
+    requires stands { WorkStands history.now work.old }
+    requires ready { HasOwnTerms (events_at work.old.bank history.now) }
+    requires basis { BasisStands history.now work.old basis.now }
+    requires goal { AreTermsIn history.now work.old goal.now }
+    requires to { to ≤ length goal.now }
+    ensures outcome { IfOk result (λ o. IsOutcome history.now work.new (terms_at work.old.bank goal.now) o) }
+    ensures grows { WorkGrows history.now work.old work.new }
+    ensures out { result ≡ Err Stop.OutOfSteps → work.new.counter.used ≡ work.new.counter.limit }
+{
+    for at in from..to {
+        let here = change_at(work, history, basis, rewriter, goal, at, place)?;
         if !here.is_same() {
             return Ok(here);
         }

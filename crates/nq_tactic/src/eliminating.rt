@@ -8,9 +8,9 @@ ghost use Rattle.nq_tactic.specs.Ways.{IsWay, nexts_of};
 
 use crate::way::Way;
 use nq_bank::TermId;
-use nq_elim::{Elimination, eliminate};
+use nq_elim::{Elimination, eliminate, equate_numbers};
 use nq_history::{Hints, History};
-use nq_kernel::{Stop, Work};
+use nq_kernel::{Stop, Work, ready_histories};
 use nq_search::{Led, Plan};
 
 /// A goal whose destructors are replaced.
@@ -33,7 +33,7 @@ fn eliminated(
 }
 
 /// Leads a goal on by replacing destructors by new variables, where it has some.
-pub fn lead_eliminated(
+fn lead_parted(
     work: &mut Work,
     history: &History,
     hints: &Hints,
@@ -49,5 +49,26 @@ pub fn lead_eliminated(
     match eliminate(work, history, hints, goal, 0)? {
         Some(elimination) => Ok(Some(eliminated(work, history, goal, elimination, plan))),
         None => Ok(None),
+    }
+}
+
+/// Leads a goal on by an elimination: of a number that is the same as another, or else of destructors.
+pub fn lead_eliminated(
+    work: &mut Work,
+    history: &History,
+    hints: &Hints,
+    goal: &[TermId],
+    plan: Plan,
+) -> Result<Option<Led<Way>>, Stop>
+    requires can { CanSearch history.now hints.now work.old }
+    requires goal { IsGoalIn history.now work.old goal.now }
+    ensures led { IfOk result (λ found. IfSome found (IsLed nexts_of IsWay history.now work.new goal.now)) }
+    ensures grows { WorkGrows history.now work.old work.new }
+    ensures out { result ≡ Err Stop.OutOfSteps → work.new.counter.used ≡ work.new.counter.limit }
+{
+    ready_histories();
+    match equate_numbers(work, history, hints, goal)? {
+        Some(elimination) => Ok(Some(eliminated(work, history, goal, elimination, plan))),
+        None => lead_parted(work, history, hints, goal, plan),
     }
 }

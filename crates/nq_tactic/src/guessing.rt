@@ -70,21 +70,65 @@ fn leaf_of(work: &Work, history: &History, g: Sym) -> Leaves
     }
 }
 
-/// What the leaves of a term tell.
-fn leaves_of(work: &Work, history: &History, f: Sym, t: TermId) -> Leaves
+/// The recognizer of the kind that a test tells a variable to be of, or not to be of.
+fn test_kind(history: &History, f: Sym) -> Option<Sym> {
+    if f.0 == ground::ZEROP.0 {
+        return Some(ground::NUMBERP);
+    }
+    match recognized_place(history, f) {
+        Some(_) => Some(f),
+        None => None,
+    }
+}
+
+/// The recognizer of the kind of which a test within a term tells whether a variable is of it.
+fn tested_kind(bank: &Bank, history: &History, t: TermId, v: TermId) -> Option<Sym>
+    requires { Stands bank.now t }
+{
+    if let Node::App(g, _) = bank.node(t) {
+        let arguments = bank.args(t);
+        if arguments.len() == 1 && arguments[0].0 == v.0 {
+            let kind = test_kind(history, g);
+            if kind.is_some() {
+                return kind;
+            }
+        }
+        for a in arguments {
+            let kind = tested_kind(bank, history, *a, v);
+            if kind.is_some() {
+                return kind;
+            }
+        }
+    }
+    None
+}
+
+/// What a variable tells that is a leaf of a body.
+fn variable_leaf(bank: &Bank, history: &History, body: TermId, v: TermId) -> Leaves
+    requires { Stands bank.now body }
+{
+    match tested_kind(bank, history, body, v) {
+        Some(r) => Leaves::Of(r),
+        None => Leaves::Mixed,
+    }
+}
+
+/// What the leaves of a term within a body tell.
+fn leaves_of(work: &Work, history: &History, f: Sym, body: TermId, t: TermId) -> Leaves
     requires stands { WorkStands history.now work.now }
+    requires body { Stands work.now.bank body }
     requires term { Stands work.now.bank t }
 {
     match work.bank.node(t) {
         Node::Num(_) => Leaves::Of(ground::NUMBERP),
-        Node::Var(_) => Leaves::Mixed,
+        Node::Var(_) => variable_leaf(&work.bank, history, body, t),
         Node::App(g, _) => {
             let arguments = work.bank.args(t);
             if g.0 == f.0 {
                 Leaves::Own
             } else if g.0 == ground::IF.0 && arguments.len() == 3 {
-                let first = leaves_of(work, history, f, arguments[1]);
-                let second = leaves_of(work, history, f, arguments[2]);
+                let first = leaves_of(work, history, f, body, arguments[1]);
+                let second = leaves_of(work, history, f, body, arguments[2]);
                 both(first, second)
             } else {
                 leaf_of(work, history, g)
@@ -127,7 +171,7 @@ fn guessed_kind(work: &Work, history: &History, f: Sym) -> Option<Sym>
         return Some(ground::NUMBERP);
     }
     let body = body_of(&work.bank, history, f)?;
-    match leaves_of(work, history, f, body) {
+    match leaves_of(work, history, f, body, body) {
         Leaves::Own => None,
         Leaves::Of(r) => Some(r),
         Leaves::Mixed => None,
@@ -184,9 +228,7 @@ fn add_functions(bank: &Bank, names: &mut Vec<Sym>, t: TermId) -> Result<(), All
     requires { Stands bank.now t }
 {
     if let Node::App(f, _) = bank.node(t) {
-        if !has_name(names.as_slice(), f) {
-            names.push(f)?;
-        }
+        add_name(names, f)?;
         for a in bank.args(t) {
             add_functions(bank, names, *a)?;
         }
@@ -204,7 +246,28 @@ fn add_small(bank: &Bank, names: &mut Vec<Sym>, t: TermId) -> Result<(), AllocEr
     Ok(())
 }
 
-/// Adds the functions of the body of the function at a place.
+/// The measure of a function, if it is defined by recursion.
+fn measure_of(history: &History, f: Sym) -> Option<TermId> {
+    let e = history.lookup(f)?;
+    match &e.kind {
+        EntryKind::Defn(_, _, measure) => *measure,
+        EntryKind::Axiom(_, _) => None,
+        EntryKind::Lemma(_, _) => None,
+        EntryKind::Shell(_) => None,
+        EntryKind::Dcl(_) => None,
+        EntryKind::Toggle(_, _) => None,
+    }
+}
+
+/// Adds a function, if it is not among these.
+fn add_name(names: &mut Vec<Sym>, f: Sym) -> Result<(), AllocError> {
+    if !has_name(names.as_slice(), f) {
+        names.push(f)?;
+    }
+    Ok(())
+}
+
+/// Adds the functions of the body and of the measure of the function at a place; where it is COUNT, PLUS, of which sizes are made.
 fn add_opened(
     bank: &Bank,
     history: &History,
@@ -214,6 +277,14 @@ fn add_opened(
     if place < names.len() {
         if let Some(body) = body_of(bank, history, names[place]) {
             add_functions(bank, names, body)?;
+        }
+    }
+    if place < names.len() && names[place].0 == ground::COUNT.0 {
+        add_name(names, ground::PLUS)?;
+    }
+    if place < names.len() {
+        if let Some(measure) = measure_of(history, names[place]) {
+            add_small(bank, names, measure)?;
         }
     }
     Ok(())

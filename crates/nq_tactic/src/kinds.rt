@@ -2,7 +2,9 @@
 //! known from then on.
 ghost use Rattle.std.specs.Prelude.{◌≡◌, ◌++◌, ◌∷◌, [], IfOk, OnOk, OnErr, Err};
 ghost use Rattle.nq_bank.specs.Content.{IsNamed};
+ghost use Rattle.nq_history.specs.Events.{events_at};
 ghost use Rattle.nq_kernel.specs.Growing.{LineStands, WorkGrows, WorkStands};
+ghost use Rattle.nq_kernel.specs.Ready.{IsReady};
 ghost use Rattle.nq_lines.specs.Facts.{IsFact};
 ghost use Rattle.nq_lines.specs.Lines.{IsTermIn};
 ghost use Rattle.nq_search.specs.Goals.{CanSearch};
@@ -10,7 +12,7 @@ ghost use Rattle.nq_search.specs.Goals.{CanSearch};
 use crate::guessing::{functions_of, guessed_place, has_name, recognizer_at};
 use crate::order::TURNS;
 use crate::tactic::Waterfall;
-use nq_bank::{Sym, TermId};
+use nq_bank::{Sym, TermId, ground};
 use nq_history::{Hints, History};
 use nq_kernel::{Prescription, Stop, Work, ready_histories};
 use nq_lines::{Fact, row_fact, sides_of};
@@ -19,7 +21,7 @@ use nq_rewrite::{kind_line, one_call};
 use nq_search::{Plan, seek};
 
 /// Into how many parts the steps are divided of which the search for one kind gets one.
-const KIND_PART: u64 = 200;
+const KIND_PART: u64 = 60;
 
 /// The plan of the search for a kind.
 fn plan_of_kind(work: &Work) -> Plan {
@@ -120,8 +122,26 @@ fn learn_kind(work: &mut Work, history: &History, hints: &Hints, f: Sym) -> Resu
     ensures grows { WorkGrows history.now work.old work.new }
     ensures out { result ≡ Err Stop.OutOfSteps → work.new.counter.used ≡ work.new.counter.limit }
 {
+    if f.0 == ground::COUNT.0 {
+        return learn_size(work, history, f);
+    }
     match guessed_place(work, history, f) {
         Some(place) => learn_placed(work, history, hints, f, place),
+        None => Ok(()),
+    }
+}
+
+/// Learns of what kind sizes are: row 1 of COUNT says it.
+fn learn_size(work: &mut Work, history: &History, f: Sym) -> Result<(), Stop>
+    requires stands { WorkStands history.now work.old }
+    requires ready { IsReady (events_at work.old.bank history.now) }
+    requires function { IsNamed work.old.bank f }
+    ensures grows { WorkGrows history.now work.old work.new }
+    ensures out { result ≡ Err Stop.OutOfSteps → work.new.counter.used ≡ work.new.counter.limit }
+{
+    own_terms();
+    match row_fact(work, history, f)? {
+        Some(row) => remember(work, history, f, row.line),
         None => Ok(()),
     }
 }

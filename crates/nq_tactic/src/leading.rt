@@ -12,6 +12,7 @@ ghost use Rattle.nq_tactic.specs.Ways.{IsWay, nexts_of};
 
 use crate::arithmetic::number_line;
 use crate::simplifying::simplified;
+use crate::tested::tested_line;
 use crate::trivial::truth_line;
 use crate::way::Way;
 use nq_bank::TermId;
@@ -92,6 +93,30 @@ fn lead_by_arithmetic(
     ensures out { result ≡ Err Stop.OutOfSteps → work.new.counter.used ≡ work.new.counter.limit }
 {
     match number_line(work, history, hints, goal)? {
+        Some(line) => Ok(Some(refuted_by(work, history, goal, line, plan))),
+        None => lead_by_rules(work, history, hints, goal, plan),
+    }
+}
+
+/// Leads a simplified goal on to none, where rules say that one of its literals is true.
+fn lead_by_rules(
+    work: &mut Work,
+    history: &History,
+    hints: &Hints,
+    goal: &[TermId],
+    plan: Plan,
+) -> Result<Option<Led<Way>>, Stop>
+    requires stands { WorkStands history.now work.old }
+    requires ready { HasOwnTerms (events_at work.old.bank history.now) }
+    requires goal { IsGoalIn history.now work.old goal.now }
+    ensures led { IfOk result (λ found. IfSome found (IsLed nexts_of IsWay history.now work.new goal.now)) }
+    ensures grows { WorkGrows history.now work.old work.new }
+    ensures out { result ≡ Err Stop.OutOfSteps → work.new.counter.used ≡ work.new.counter.limit }
+{
+    if !plan.simplified {
+        return Ok(None);
+    }
+    match tested_line(work, history, hints, goal)? {
         Some(line) => Ok(Some(refuted_by(work, history, goal, line, plan))),
         None => Ok(None),
     }

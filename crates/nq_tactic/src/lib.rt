@@ -13,6 +13,7 @@ mod simplifying;
 
 // lines that close goals
 mod arithmetic;
+mod tested;
 mod trivial;
 
 // each way, and the way back

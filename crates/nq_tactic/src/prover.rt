@@ -1,5 +1,5 @@
-//! The prover: the first pass, and then the search. A lemma that is in a fragment is proved there, without counting a step; another is
-//! searched for, and where the search finds a line with only the lemma, it is proved by that.
+//! The prover: the first pass, and then the search. A lemma that is in a fragment is proved there, without counting a step, and so is
+//! one that is hinted. Another is searched for, and where the search finds a line with only the lemma, it is proved by that.
 ghost use Rattle.std.specs.Prelude.{IfOk};
 ghost use Rattle.nq_bank.specs.Content.{term_at};
 ghost use Rattle.nq_history.specs.Events.{events_at};
@@ -11,6 +11,7 @@ ghost use Rattle.nq_search.specs.Goals.{CanSearch};
 
 use crate::lemmas::seek_lemma;
 use nq_bank::{Bank, TermId};
+use nq_hinted::prove_hinted;
 use nq_history::{Hints, History};
 use nq_kernel::{Proof, Prover, Stop, Verdict, Work, ready_histories};
 use nq_quick::quick;
@@ -48,8 +49,31 @@ impl Prover for Searcher {
         ready_histories();
         match quick(work, history, goal)? {
             Some((way, line)) => Ok(Verdict::Proved(line, Proof::First(way))),
-            None => searched(work, history, goal, hints),
+            None => hinted(work, history, goal, hints),
         }
+    }
+}
+
+/// Proves a lemma that no fragment holds: at once where it is hinted, and else by a search.
+fn hinted(
+    work: &mut Work,
+    history: &History,
+    goal: TermId,
+    hints: &Hints,
+) -> Result<Verdict, AllocError>
+    requires can { CanSearch history.now hints.now work.old }
+    requires goal { IsTermIn history.now work.old goal }
+    requires none { IsInNoFragment (events_at work.old.bank history.now) (term_at work.old.bank goal) }
+    ensures grows { WorkGrows history.now work.old work.new }
+    ensures told { IfOk result (λ v. IsTold work.new (term_at work.old.bank goal) v) }
+    ensures first { IfOk result (λ v. IsFirstPass (events_at work.old.bank history.now) (term_at work.old.bank goal) v) }
+{
+    let alloc = work.bank.alloc();
+    ready_histories();
+    match prove_hinted(work, history, hints, goal)? {
+        // the trace of the proof shows no goal
+        Some(line) => Ok(Verdict::Proved(line, Proof::Waterfall(Vec::new(alloc)))),
+        None => searched(work, history, goal, hints),
     }
 }
 

@@ -13,7 +13,7 @@ use nq_ready::own_terms;
 use nq_simplify::{Simplified, make_basis, simplify_goal};
 
 /// How many literals may be rewritten in a row.
-const ROUNDS: u64 = 60;
+const ROUNDS: u64 = 120;
 
 /// Simplifies a goal.
 pub fn simplified(

@@ -1539,8 +1539,8 @@ reducing::try_rule-try_instance-requires t c =
     let h : List Entry = c.args.history.now in
     let hyps : List TermId = c.args.assumed.now in
     let old : Work = c.args.work.now in
-    let one : Work = c.rule_for.new.work in
-    let g1 : WorkGrows h old one = c.rule_for.ensures.grows in
+    let one : Work = c.rule_at_hand.new.work in
+    let g1 : WorkGrows h old one = c.rule_at_hand.ensures.grows in
     let fewer : one.counter.limit - one.counter.used ≤ old.counter.limit - old.counter.used = fewer_left h old one g1 in
     (omega (arith, fewer), (c.requires.depth, ((can_grown h old one g1 hyps c.args.t c.requires.can), held_now h old one g1 hyps c.args.t c.requires.can c.in-Some.fact (subst (λ o. IfSome o (IsHeld h one (terms_at old.bank hyps))) c.in-Some.is c.in_ok-fact.ensures.held))))
 
@@ -1549,8 +1549,8 @@ reducing::try_rule-returns-in-Some-clause-held t c =
     let h : List Entry = c.args.history.now in
     let hyps : List TermId = c.args.assumed.now in
     let old : Work = c.args.work.now in
-    let one : Work = c.rule_for.new.work in
-    let g1 : WorkGrows h old one = c.rule_for.ensures.grows in
+    let one : Work = c.rule_at_hand.new.work in
+    let g1 : WorkGrows h old one = c.rule_at_hand.ensures.grows in
     let two : Work = c.try_instance.new.work in
     let g2 : WorkGrows h one two = c.try_instance.ensures.grows in
     held_before h old one g1 hyps c.args.t c.requires.can two c.try_instance.result c.try_instance.ensures.held
@@ -1560,8 +1560,8 @@ reducing::try_rule-returns-in-Some-clause-grows t c =
     let h : List Entry = c.args.history.now in
     let hyps : List TermId = c.args.assumed.now in
     let old : Work = c.args.work.now in
-    let one : Work = c.rule_for.new.work in
-    let g1 : WorkGrows h old one = c.rule_for.ensures.grows in
+    let one : Work = c.rule_at_hand.new.work in
+    let g1 : WorkGrows h old one = c.rule_at_hand.ensures.grows in
     let two : Work = c.try_instance.new.work in
     let g2 : WorkGrows h one two = c.try_instance.ensures.grows in
     (WorkGrows-trans h old one two g1 g2)

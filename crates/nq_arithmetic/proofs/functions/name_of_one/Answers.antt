@@ -1,4 +1,4 @@
-use Rattle.nq_logic.proofs.Symbols.{add1_symbol, sub1_symbol, count_symbol, car_symbol, cdr_symbol, numberp_symbol, listp_symbol, zerop_symbol}
+use Rattle.nq_logic.proofs.Symbols.{add1_symbol, sub1_symbol, count_symbol, car_symbol, cdr_symbol, numberp_symbol, listp_symbol, zerop_symbol, fix_symbol}
 use Rattle.nq_arithmetic.proofs.functions.name_of_one.Goals as goal
 
 pub returns-in-Add1-clause-function : goal.returns-in-Add1-clause-function
@@ -24,3 +24,6 @@ returns-in-Listp-clause-function c = λ h. listp_symbol h
 
 pub returns-in-Zerop-clause-function : goal.returns-in-Zerop-clause-function
 returns-in-Zerop-clause-function c = λ h. zerop_symbol h
+
+pub returns-in-Fix-clause-function : goal.returns-in-Fix-clause-function
+returns-in-Fix-clause-function c = λ h. fix_symbol h

@@ -10,6 +10,9 @@ turned_term-requires c = c.turned.ensures.grows.stands
 pub returns-in_err-other : goal.returns-in_err-other
 returns-in_err-other c = grown_trans c.args.history.now c.args.work.now c.turned.new.work c.turned_term.new.work c.turned.ensures c.turned_term.ensures
 
+pub returns-then-has_id : goal.returns-then-has_id
+returns-then-has_id c = grown_trans c.args.history.now c.args.work.now c.turned.new.work c.turned_term.new.work c.turned.ensures c.turned_term.ensures
+
 pub denied_twice-requires : goal.denied_twice-requires
 denied_twice-requires c = c.turned_term.ensures.grows.stands
 

@@ -3,12 +3,3 @@ use Rattle.nq_descents.proofs.descents.line_of.Goals as goal
 
 pub returns-in_err-size : goal.returns-in_err-size
 returns-in_err-size c = grown_refl c.args.history.now c.args.work.now c.requires
-
-pub returns-in_err-small : goal.returns-in_err-small
-returns-in_err-small c = grown_refl c.args.history.now c.args.work.now c.requires
-
-pub returns-in_err-large : goal.returns-in_err-large
-returns-in_err-large c = grown_refl c.args.history.now c.args.work.now c.requires
-
-pub returns : goal.returns
-returns c = grown_refl c.args.history.now c.args.work.now c.requires

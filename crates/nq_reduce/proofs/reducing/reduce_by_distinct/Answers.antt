@@ -2,11 +2,11 @@ use Rattle.nq_kernel.proofs.GrowingLemmas.{WorkGrows-trans}
 use Rattle.nq_reduce.proofs.RewritingLemmas.{can_grown, told_before}
 use Rattle.nq_reduce.proofs.reducing.reduce_by_distinct.Goals as goal
 
-pub by_base-requires : goal.by_base-requires
-by_base-requires c = record { can = can_grown c.args.history.now c.args.work.now c.by_distinct.new.work c.by_distinct.ensures.grows c.args.assumed.now c.args.t c.requires.can }
+pub reduce_by_base-requires : goal.reduce_by_base-requires
+reduce_by_base-requires c = record { can = can_grown c.args.history.now c.args.work.now c.by_distinct.new.work c.by_distinct.ensures.grows c.args.assumed.now c.args.t c.requires.can }
 
 pub returns-else-is_some-clause-ok : goal.returns-else-is_some-clause-ok
-returns-else-is_some-clause-ok c = told_before c.args.history.now c.args.assumed.now c.args.work.now c.by_distinct.new.work c.by_base.new.work c.args.t c.by_base.result c.by_distinct.ensures.grows c.requires.can c.by_base.ensures.ok
+returns-else-is_some-clause-ok c = told_before c.args.history.now c.args.assumed.now c.args.work.now c.by_distinct.new.work c.reduce_by_base.new.work c.args.t c.reduce_by_base.result c.by_distinct.ensures.grows c.requires.can c.reduce_by_base.ensures.ok
 
 pub returns-else-is_some-clause-grows : goal.returns-else-is_some-clause-grows
-returns-else-is_some-clause-grows c = (WorkGrows-trans c.args.history.now c.args.work.now c.by_distinct.new.work c.by_base.new.work c.by_distinct.ensures.grows c.by_base.ensures.grows)
+returns-else-is_some-clause-grows c = (WorkGrows-trans c.args.history.now c.args.work.now c.by_distinct.new.work c.reduce_by_base.new.work c.by_distinct.ensures.grows c.reduce_by_base.ensures.grows)

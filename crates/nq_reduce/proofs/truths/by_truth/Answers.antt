@@ -4,7 +4,6 @@ use Rattle.nq_bank.specs.Content.{term_at, terms_at}
 use Rattle.nq_kernel.proofs.GrowingLemmas.{WorkGrows-trans}
 use Rattle.nq_reduce.specs.Rewriting.{IsKnown}
 use Rattle.nq_reduce.proofs.RewritingLemmas.{can_grown, told_before, known_now}
-use Rattle.nq_reduce.proofs.HeldLemmas.{unchanged_after}
 use Rattle.nq_reduce.proofs.truths.by_truth.Goals as goal
 
 pub truth_told-requires-clause-can : goal.truth_told-requires-clause-can
@@ -19,5 +18,11 @@ returns-in-Some-clause-ok c = told_before c.args.history.now c.args.assumed.now 
 pub returns-in-Some-clause-grows : goal.returns-in-Some-clause-grows
 returns-in-Some-clause-grows c = (WorkGrows-trans c.args.history.now c.args.work.now c.settled.new.work c.truth_told.new.work c.settled.ensures.grows c.truth_told.ensures.grows)
 
+pub by_restriction-requires : goal.by_restriction-requires
+by_restriction-requires c = record { can = can_grown c.args.history.now c.args.work.now c.settled.new.work c.settled.ensures.grows c.args.assumed.now c.args.t c.requires.can }
+
 pub returns-in-None-clause-ok : goal.returns-in-None-clause-ok
-returns-in-None-clause-ok c = unchanged_after c.args.history.now c.args.work.now c.settled.new.work c.args.assumed.now c.args.t c.unchanged.result c.settled.ensures.grows c.requires.can c.unchanged.ensures.term c.unchanged.ensures.line
+returns-in-None-clause-ok c = told_before c.args.history.now c.args.assumed.now c.args.work.now c.settled.new.work c.by_restriction.new.work c.args.t c.by_restriction.result c.settled.ensures.grows c.requires.can c.by_restriction.ensures.ok
+
+pub returns-in-None-clause-grows : goal.returns-in-None-clause-grows
+returns-in-None-clause-grows c = WorkGrows-trans c.args.history.now c.args.work.now c.settled.new.work c.by_restriction.new.work c.settled.ensures.grows c.by_restriction.ensures.grows

@@ -2,10 +2,14 @@ use Rattle.std.proofs.Common.{◌∙◌, sym, subst}
 use Rattle.std.specs.Prelude.{All}
 use Rattle.nq_bank.proofs.Standing.{All-push}
 use Rattle.nq_kernel.proofs.GrowingLemmas.{WorkGrows-trans}
+use Rattle.nq_lines.proofs.FactLemmas.{own_terms_grown}
 use Rattle.nq_lines.specs.Lines.{IsTermIn}
 use Rattle.nq_lines.proofs.TermLemmas.{term_grown}
 use Rattle.nq_schemes.proofs.GrownLemmas.{terms_grown}
 use Rattle.nq_schemes.proofs.starting.further_line.Goals as goal
+
+pub shown_line-requires-clause-own : goal.shown_line-requires-clause-own
+shown_line-requires-clause-own c = own_terms_grown c.args.history.now c.args.work.now c.falls_at.new.work c.falls_at.ensures.grows c.requires.stands c.requires.basis.own
 
 pub shown_line-requires-clause-goal : goal.shown_line-requires-clause-goal
 shown_line-requires-clause-goal c = subst (All (IsTermIn c.args.history.now c.falls_at.new.work)) (sym (c.as_slice-2.ensures.value ∙ c.in_ok-goal.ensures.all)) (All-push (IsTermIn c.args.history.now c.falls_at.new.work) c.as_slice.result.now c.in_ok-falls.falls (subst (All (IsTermIn c.args.history.now c.falls_at.new.work)) (sym c.as_slice.ensures.value) (terms_grown c.args.history.now c.args.work.now c.falls_at.new.work c.requires.stands c.falls_at.ensures.grows c.args.literals.now.items c.requires.literals)) c.in_ok-falls.ensures.over)

@@ -1,5 +1,4 @@
-use Rattle.std.proofs.Common.{◌≡◌, [], ◌∷◌, ap, subst}
-use Rattle.nq_logic.specs.Terms.{Term}
+use Rattle.std.proofs.Common.{[], ◌∷◌}
 use Rattle.nq_logic.specs.Words.{not_term, equal_term}
 use Rattle.nq_bank.specs.Content.{term_at}
 use Rattle.nq_rule.proofs.Made.{for_ok}

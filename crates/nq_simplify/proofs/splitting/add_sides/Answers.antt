@@ -3,7 +3,7 @@ use Rattle.nq_logic.specs.Words.{not_term, equal_term}
 use Rattle.nq_bank.specs.Content.{term_at}
 use Rattle.nq_proof.specs.Paths.{replaced_at}
 use Rattle.nq_kernel.specs.declared.work.Work.{Work}
-use Rattle.nq_kernel.specs.Growing.{WorkGrows, LineStands}
+use Rattle.nq_kernel.specs.Growing.{WorkGrows}
 use Rattle.nq_kernel.proofs.GrowingLemmas.{WorkGrows-refl, WorkGrows-trans}
 use Rattle.nq_lines.specs.Lines.{LineHasOnly}
 use Rattle.nq_lines.proofs.LineLemmas.{line_grown, only_grown, only_stands}

@@ -7,7 +7,7 @@ use Rattle.nq_kernel.specs.declared.work.Work.{Work}
 use Rattle.nq_kernel.proofs.GrowingLemmas.{WorkGrows-refl, WorkGrows-trans}
 use Rattle.nq_lines.proofs.LineLemmas.{only_stands}
 use Rattle.nq_lines.proofs.TermLemmas.{term_grown, same_term_grown}
-use Rattle.nq_simplify.specs.Simplified.{AreTermsIn, put_in, IsNewLiteral}
+use Rattle.nq_simplify.specs.Simplified.{AreTermsIn, IsNewLiteral}
 use Rattle.nq_simplify.proofs.SplittingLemmas.{put_stands}
 use Rattle.nq_simplify.proofs.OutcomeLemmas.{if_some, none_in, closed_by_truth, turned_by}
 use Rattle.nq_simplify.proofs.turning.rewrite_at.Goals as goal

@@ -1,0 +1,2 @@
+pub mod NormalClauses
+pub mod DroppedLiterals

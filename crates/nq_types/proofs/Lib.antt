@@ -1,0 +1,12 @@
+pub mod CallLemmas
+pub mod FindingLemmas
+pub mod KindLemmas
+pub mod OwnNames
+pub mod RowLemmas
+pub mod PartLemmas
+pub mod ShellLemmas
+pub mod ConstantLemmas
+pub mod JudgeLemmas
+pub mod SetLemmas
+pub mod ValueLemmas
+pub mod TypeLemmas

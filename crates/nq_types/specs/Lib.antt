@@ -1,0 +1,5 @@
+pub mod TypeSets
+pub mod Kinds
+pub mod Parts
+pub mod Finding
+pub mod Shown

@@ -1,0 +1,34 @@
+//! Type sets: what kind of object a term is, with a line that shows it.
+//!
+//! A type set has a bit for each recognizer of the history and one for all other objects. `type_of` gives the set of a term under
+//! assumptions, and a line that holds only the fact of the set and denials of what is assumed. Which kind T, F, a base and a call
+//! of a constructor are of is exact. What other terms are is guessed, and the line that is made decides: it is read literal by
+//! literal, and where it has another literal than recognizers of the term and denials, the answer is the set of all objects.
+#![tactic(auto)]
+
+// sets of kinds
+mod sets;
+
+// terms whose kind stands in them
+mod kinds;
+
+// pairs of the variables of a shell's parts and terms
+mod naming;
+
+// lines of bases and calls of constructors, and of T and F
+mod constants;
+mod making;
+
+// the types of these
+mod exact;
+
+// whether a line shows a type, and lines that may
+mod guessing;
+mod judging;
+
+// the type of any term
+mod types;
+
+pub use kinds::values_have_kinds;
+pub use sets::{OTHER_PLACE, TypeSet, has};
+pub use types::type_of;
