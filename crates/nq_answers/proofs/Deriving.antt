@@ -14,7 +14,7 @@ use Rattle.nq_log.specs.States.{Adds, Undoes}
 use Rattle.nq_log.specs.Laws.{ClaimsHold, EventHolds, IsSound}
 use Rattle.nq_log.proofs.Events.{sound_after}
 use Rattle.nq_comment.specs.Reports.{Answer, Accepted, AcceptedBy, Unmeasured, Undone, Skipped, Proved, ProvedFrom, Failed, OutOfSteps, Quick, Taut, Eval, Inst, Report}
-use Rattle.nq_comment.specs.declared.step.Cause.TheVariants.{False, NoInduction}
+use Rattle.nq_comment.specs.declared.step.Cause.TheVariants.{False}
 use Rattle.nq_goals.specs.Hints.{first_goal}
 use Rattle.nq_language.specs.Printing.{printed}
 use Rattle.nq_events.specs.Events.{Event, Hints, Measure, BootStrap, AddShell, Dcl, Defn, AddAxiom, ProveLemma, Toggle, Undo, Skipped as PassedOver}
@@ -27,7 +27,7 @@ use Rattle.nq_events.specs.Effects.{defined, history_after}
 use Rattle.nq_events.proofs.EventTerms.{events_have_terms}
 use Rattle.nq_events.proofs.AllowedEvents.{events_are_allowed, plain_definitions}
 use Rattle.nq_answers.specs.Goals.{goal_text}
-use Rattle.nq_answers.specs.Steps.{Answers, AnswersUnless, IsDefined, IsOutcome, IsRecursionTried, IsTried, by_tautology, by_evaluation, by_instance, by_falsity, by_want, by_search, Runs, after, after_event, first_answer, is_taken, measure_by, not_yet, refusal_of, refused, undone, untaken}
+use Rattle.nq_answers.specs.Steps.{Answers, AnswersUnless, IsDefined, IsOutcome, IsRecursionTried, IsProvedByMoves, IsTried, by_tautology, by_evaluation, by_instance, by_falsity, by_want, by_search, Runs, after, after_event, first_answer, is_taken, measure_by, not_yet, refusal_of, refused, undone, untaken}
 use Rattle.nq_answers.specs.Claims.{claims_of, event_claims}
 use Rattle.nq_answers.specs.Derived.{EventsHold}
 use Rattle.nq_answers.specs.Laws.{RunsAreDerived}
@@ -111,8 +111,8 @@ module _ (h : History) (sound : IsSound h) (form : Form) where
       proved : (quick : Quick) → answer ≡ Proved quick → Derivable h (holds t) → HoldsAfter h e answer
       proved quick so shown = answered e answer (Proved quick) so (claimed shown)
 
-      found : (Derivable h (holds t) × (answer ≡ ProvedFrom (goal_text (first_goal h hints t)) [])) ⊎ ((answer ≡ OutOfSteps) ⊎ (answer ≡ not_yet form)) → HoldsAfter h e answer
-      found (inl (shown, so)) = answered e answer (ProvedFrom (goal_text (first_goal h hints t)) []) so (claimed shown)
+      found : IsProvedByMoves h hints t answer ⊎ ((answer ≡ OutOfSteps) ⊎ (answer ≡ not_yet form)) → HoldsAfter h e answer
+      found (inl moved) = answered e answer (ProvedFrom (goal_text (first_goal h hints t)) moved.steps) moved.answer_is (claimed moved.shown)
       found (inr (inl so)) = answered e answer OutOfSteps so (tt, sound)
       found (inr (inr so)) = answered e answer (not_yet form) so (tt, sound)
 
@@ -121,7 +121,7 @@ module _ (h : History) (sound : IsSound h) (form : Form) where
       by_way (by_evaluation valued) = proved Eval valued.answer_is valued.shown
       by_way (by_instance first so) = proved Inst so (instance_derivable h t sound over first.instance)
       by_way (by_falsity falsified) = answered e answer (Failed (goal_text (first_goal h hints t)) [] False) falsified.answer_is (tt, sound)
-      by_way (by_want given_up) = answered e answer (Failed (goal_text (first_goal h hints t)) [] NoInduction) given_up.answer_is (tt, sound)
+      by_way (by_want given_up) = answered e answer (Failed (goal_text (first_goal h hints t)) given_up.steps given_up.cause) given_up.answer_is (tt, sound)
       by_way (by_search searched) = found searched.found
 
   -- a definition that is tried

@@ -1,5 +1,6 @@
 pub mod Headers
 pub mod Goals
+pub mod Shown
 pub mod Measuring
 pub mod Steps
 pub mod Claims

@@ -19,14 +19,15 @@ use Rattle.nq_events.specs.Effects.{history_after}
 use Rattle.nq_fragments.specs.Tautologies.{IsSmallTautology}
 use Rattle.nq_fragments.specs.Fragments.{IsFirstByEvaluation, IsFirstByInstance, IsInNoFragment}
 use Rattle.nq_goals.specs.Hints.{first_goal}
-use Rattle.nq_goals.specs.Spent.{IsFalse, IsSpent}
-use Rattle.nq_goals.specs.declared.kinds.Cause.TheVariants as cause
-use Rattle.nq_comment.specs.Reports.{Answer, Accepted, AcceptedBy, Unmeasured, Undone, Skipped, Proved, ProvedFrom, Failed, OutOfSteps, Refused, Taut, Eval, Inst, Report, Trial}
-use Rattle.nq_comment.specs.declared.step.Cause.TheVariants.{False, NoInduction}
+use Rattle.nq_goals.specs.Spent.{IsFalse}
+use Rattle.nq_comment.specs.Reports.{Answer, Accepted, AcceptedBy, Unmeasured, Undone, Skipped, Proved, ProvedFrom, Failed, OutOfSteps, Refused, Taut, Eval, Inst, Report, ShownStep, Trial}
+use Rattle.nq_comment.specs.declared.step.Cause.{Cause}
+use Rattle.nq_comment.specs.declared.step.Cause.TheVariants.{False}
 use Rattle.nq_comment.specs.Text.{shown_word}
 use Rattle.nq_answers.specs.Headers.{name_of, word_of}
 use Rattle.nq_answers.specs.Goals.{goal_text}
 use Rattle.nq_answers.specs.Measuring.{AreTrials}
+use Rattle.nq_answers.specs.Shown.{ShowsTrace, ShowsTree}
 
 -- the first of two answers that there is
 abbrev pub first_answer : Option Answer → Option Answer → Option Answer
@@ -82,12 +83,19 @@ abbrev pub IsDefined : Bool → History → Name → List Name → Term → List
 IsDefined false h name formals body measures answer = answer ≡ Accepted
 IsDefined true h name formals body measures answer = IsRecursionTried h name formals body measures answer
 
--- The lemma is in no fragment and its first goal is not false. It is derivable, and proved from the first goal. Or it is not proved within the steps;
--- or, for now, not at all.
+-- It is derivable, and proved by moves from the first goal: the steps that are told are a trace.
+pub record IsProvedByMoves (h : History) (hints : Hints) (t : Term) (answer : Answer) : Type 0 where
+  pub shown : Derivable h (holds t)
+  pub steps : List ShownStep
+  pub told : ShowsTrace h hints (first_goal h hints t) steps
+  pub answer_is : answer ≡ ProvedFrom (goal_text (first_goal h hints t)) steps
+
+-- The lemma is in no fragment and its first goal is not false. It is proved by moves; or it is not proved within the steps; or,
+-- for now, not at all.
 pub record IsSearched (h : History) (form : Form) (hints : Hints) (t : Term) (answer : Answer) : Type 0 where
   pub no_fragment : IsInNoFragment h t
   pub not_false : IsFalse h (first_goal h hints t) → ⊥
-  pub found : (Derivable h (holds t) × (answer ≡ ProvedFrom (goal_text (first_goal h hints t)) [])) ⊎ ((answer ≡ OutOfSteps) ⊎ (answer ≡ not_yet form))
+  pub found : IsProvedByMoves h hints t answer ⊎ ((answer ≡ OutOfSteps) ⊎ (answer ≡ not_yet form))
 
 -- in no fragment, and each literal of its first goal is ground and has the value F
 pub record IsFalsified (h : History) (hints : Hints) (t : Term) (answer : Answer) : Type 0 where
@@ -95,11 +103,14 @@ pub record IsFalsified (h : History) (hints : Hints) (t : Term) (answer : Answer
   pub falsity : IsFalse h (first_goal h hints t)
   pub answer_is : answer ≡ Failed (goal_text (first_goal h hints t)) [] False
 
--- in no fragment, and its first goal is stuck: no move leads on from it, and no call in it suggests an induction
+-- In no fragment, and some goal is left over for this cause: the steps that are told are the tree of a failure from the first
+-- goal. Without a step it is the first goal itself that is left over.
 pub record IsGivenUp (h : History) (hints : Hints) (t : Term) (answer : Answer) : Type 0 where
   pub no_fragment : IsInNoFragment h t
-  pub spent : IsSpent h hints [] (first_goal h hints t) cause.NoInduction
-  pub answer_is : answer ≡ Failed (goal_text (first_goal h hints t)) [] NoInduction
+  pub steps : List ShownStep
+  pub cause : Cause
+  pub told : ShowsTree h hints (first_goal h hints t) steps cause
+  pub answer_is : answer ≡ Failed (goal_text (first_goal h hints t)) steps cause
 
 -- by its value, which is not F: it is derivable
 pub record IsEvaluated (h : History) (t : Term) (answer : Answer) : Type 0 where
@@ -108,7 +119,7 @@ pub record IsEvaluated (h : History) (t : Term) (answer : Answer) : Type 0 where
   pub answer_is : answer ≡ Proved Eval
 
 -- A lemma is proved by the first fragment that holds it, whatever its hints are. Where none does, it fails if its first goal is
--- false. Else it may fail where its first goal is stuck, and is searched for.
+-- false. Else it may fail with the tree of a failure, and is searched for.
 pub data IsTried (h : History) (form : Form) (hints : Hints) (t : Term) (answer : Answer) : Type 0 where
   by_tautology : IsSmallTautology t → answer ≡ Proved Taut → IsTried h form hints t answer
   by_evaluation : IsEvaluated h t answer → IsTried h form hints t answer

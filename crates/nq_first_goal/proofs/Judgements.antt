@@ -1,6 +1,7 @@
 -- Goals that are judged over a bank.
 use Rattle.std.proofs.Common.{◌≡◌, ◌∙◌, Bool, true, false, refl, Option, Some, None, List, [], ◌∷◌, map, ap, sym, subst, arith}
-use Rattle.std.specs.Prelude.{All, IsTrue, ◌↔◌, MatchOption}
+use Rattle.std.specs.Prelude.{All, IsTrue, ◌↔◌, MatchOption, Vec}
+use Rattle.std.specs.declared.alloc.Global.{Global}
 use Rattle.nq_logic.specs.Terms.{Term, Each}
 use Rattle.nq_logic.specs.Histories.{History}
 use Rattle.nq_bank.specs.declared.node.TermId.{TermId}
@@ -22,6 +23,8 @@ use Rattle.nq_kernel.specs.Meaning.{IsOver as LogIsOver}
 use Rattle.nq_kernel.specs.Over.{TermIsIn}
 use Rattle.nq_kernel.specs.Ready.{IsReady}
 use Rattle.nq_comment.specs.declared.step.Cause.{Cause}
+use Rattle.nq_comment.specs.declared.step.ShownStep.{ShownStep}
+use Rattle.nq_comment.specs.ReportViews.{steps_of}
 use Rattle.nq_comment.specs.declared.step.Cause.TheVariants.{False, NoInduction, Loop, Forbidden, Depth}
 use Rattle.nq_history.specs.Hints.{HintsStand}
 use Rattle.nq_events.specs.Events as model
@@ -31,8 +34,11 @@ use Rattle.nq_goals.specs.Hints.{first_goal}
 use Rattle.nq_goals.specs.Spent.{IsFalse, IsSpent}
 use Rattle.nq_goals.specs.declared.kinds.Cause.TheVariants as goals
 use Rattle.nq_ground_goals.specs.Literals.{IsLiteral}
+use Rattle.nq_goals.proofs.SolverLaws.{solver_laws}
+use Rattle.nq_comment.specs.Reports.{ShownStep as ToldStep}
+use Rattle.nq_answers.specs.Shown.{ShowsTree}
 use Rattle.nq_first_goal.specs.declared.judging.Judged.{Judged}
-use Rattle.nq_first_goal.specs.Judging.{IsCauseOf, IsJudged, cause_if, failing}
+use Rattle.nq_first_goal.specs.Judging.{IsCauseOf, IsJudged, cause_if, failing, unless}
 use Rattle.nq_uses.proofs.Overs.{IsOver, first_goal_over}
 
 -- ---- work on a bank
@@ -89,33 +95,49 @@ module _ (bank later : Content) (history : List Entry) (hints : Hints) (goal : T
 
   -- what was told of them is told of the first goal
   pub judged_before : (ids : List TermId) (told given : Judged) → HintsStand bank hints → terms_at later ids ≡ first_goal h (hints_at bank hints) (term_at bank goal)
-      → IsJudged (events_at later history) (hints_at later hints) (terms_at later ids) told → given.text ≡ told.text → given.cause ≡ told.cause
+      → IsJudged (events_at later history) (hints_at later hints) (terms_at later ids) told → given.text ≡ told.text → given.cause ≡ told.cause → given.steps ≡ told.steps
       → IsJudged h (hints_at bank hints) (first_goal h (hints_at bank hints) (term_at bank goal)) given
-  judged_before ids told given stand are judged text same =
+  judged_before ids told given stand are judged text same steps =
       let kept : IsJudged h (hints_at bank hints) (terms_at later ids) told =
       subst (λ (k : model.Hints). IsJudged h k (terms_at later ids) told) (hints_same bank later grows hints stand) (subst (λ (k : History). IsJudged k (hints_at later hints) (terms_at later ids) told) events_kept judged) in
       let here : IsJudged h (hints_at bank hints) (first_goal h (hints_at bank hints) (term_at bank goal)) told = subst (λ (ts : List Term). IsJudged h (hints_at bank hints) ts told) are kept in
       record {
         text = ap (λ v. v.items) text ∙ here.text;
         cause =
-            subst (λ (o : Option Cause). MatchOption o (IsFalse h (first_goal h (hints_at bank hints) (term_at bank goal)) → ⊥) (IsCauseOf h (hints_at bank hints) (first_goal h (hints_at bank hints) (term_at bank goal))))
-            (sym same) here.cause;
+            let first : List Term = first_goal h (hints_at bank hints) (term_at bank goal) in
+            subst (λ (s : Vec ShownStep Global). MatchOption given.cause (IsFalse h first → ⊥) (IsCauseOf h (hints_at bank hints) first (steps_of s.items))) (sym steps)
+            (subst (λ (o : Option Cause). MatchOption o (IsFalse h first → ⊥) (IsCauseOf h (hints_at bank hints) first (steps_of told.steps.items))) (sym same) here.cause);
       }
+
+-- a first goal that is left over is a tree without a step
+no_step : (h : History) (hints : model.Hints) (goal : List Term) → IsSpent h hints [] goal goals.NoInduction → ShowsTree h hints goal [] NoInduction
+no_step h hints goal spent = record {
+  steps = [];
+  tree = solver_laws.failed h hints goal [] goals.NoInduction (solver_laws.spent h hints [] goal 0 [] goals.NoInduction spent);
+  shown_is = refl;
+}
 
 -- the cause, by the two tests
 pub cause_told : (h : History) (hints : model.Hints) (goal : List Term) (falsity stuck : Bool) → IsTrue falsity ↔ IsFalse h goal → (stuck ≡ true → (IsFalse h goal → ⊥) → IsSpent h hints [] goal goals.NoInduction)
-    → MatchOption (cause_if falsity stuck) (IsFalse h goal → ⊥) (IsCauseOf h hints goal)
-cause_told h hints goal true stuck tells spent = tells.0 refl
-cause_told h hints goal false true tells spent = spent refl (λ f. let yes : false ≡ true = tells.1 f in absurd cc)
+    → MatchOption (cause_if falsity stuck) (IsFalse h goal → ⊥) (IsCauseOf h hints goal [])
+cause_told h hints goal true stuck tells spent = (tells.0 refl, refl)
+cause_told h hints goal false true tells spent = record { not_false = open_goal; tree = no_step h hints goal (spent refl open_goal) }
+  where
+    open_goal : IsFalse h goal → ⊥
+    open_goal f = let yes : false ≡ true = tells.1 f in absurd cc
 cause_told h hints goal false false tells spent = λ f. let yes : false ≡ true = tells.1 f in absurd cc
 
+unless_told : (h : History) (hints : model.Hints) (goal : List Term) (steps : List ToldStep) (cause : Cause) (proved : Bool) → (IsFalse h goal → ⊥) → IsCauseOf h hints goal steps cause
+    → MatchOption (unless proved cause) (IsFalse h goal → ⊥) (IsCauseOf h hints goal steps)
+unless_told h hints goal steps cause true open_goal told = open_goal
+unless_told h hints goal steps cause false open_goal told = told
+
 -- what is told still holds where moves proved the lemma
-pub still_told : (h : History) (hints : model.Hints) (goal : List Term) (known : Option Cause) (proved : Bool) → MatchOption known (IsFalse h goal → ⊥) (IsCauseOf h hints goal)
-    → MatchOption (failing known proved) (IsFalse h goal → ⊥) (IsCauseOf h hints goal)
-still_told h hints goal None proved told = told
-still_told h hints goal (Some False) proved told = told
-still_told h hints goal (Some NoInduction) true told = told.first.0
-still_told h hints goal (Some NoInduction) false told = told
-still_told h hints goal (Some Loop) proved told = absurd told
-still_told h hints goal (Some Forbidden) proved told = absurd told
-still_told h hints goal (Some Depth) proved told = absurd told
+pub still_told : (h : History) (hints : model.Hints) (goal : List Term) (steps : List ToldStep) (known : Option Cause) (proved : Bool) → MatchOption known (IsFalse h goal → ⊥) (IsCauseOf h hints goal steps)
+    → MatchOption (failing known proved) (IsFalse h goal → ⊥) (IsCauseOf h hints goal steps)
+still_told h hints goal steps None proved told = told
+still_told h hints goal steps (Some False) proved told = told
+still_told h hints goal steps (Some NoInduction) proved told = unless_told h hints goal steps NoInduction proved told.not_false told
+still_told h hints goal steps (Some Loop) proved told = unless_told h hints goal steps Loop proved told.not_false told
+still_told h hints goal steps (Some Forbidden) proved told = unless_told h hints goal steps Forbidden proved told.not_false told
+still_told h hints goal steps (Some Depth) proved told = unless_told h hints goal steps Depth proved told.not_false told

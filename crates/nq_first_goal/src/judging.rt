@@ -11,11 +11,11 @@ ghost use Rattle.nq_event.specs.EventsAt.{hints_at};
 ghost use Rattle.nq_goals.specs.Hints.{first_goal};
 ghost use Rattle.nq_ground_goals.specs.Literals.{IsLiteral};
 ghost use Rattle.nq_answers.specs.Goals.{goal_text};
-ghost use Rattle.nq_first_goal.specs.Judging.{IsJudged, cause_if, failing, failing_by};
+ghost use Rattle.nq_first_goal.specs.Judging.{IsJudged, cause_if, failing, failing_by, unless};
 
 use crate::texts::goal_text;
 use nq_bank::{Bank, Mark, TermId};
-use nq_comment::Cause;
+use nq_comment::{Cause, ShownStep};
 use nq_ground_goals::is_false;
 use nq_history::{Hints, History};
 use nq_kernel::{Log, Work};
@@ -30,8 +30,10 @@ pub struct Judged {
     pub bank: Bank,
     /// The text of the goal.
     pub text: Vec<u8>,
-    /// Why the goal is left over: it is false, or stuck. None where neither is known.
+    /// Why the lemma fails: the goal is false, or stuck. None where neither is known.
     pub cause: Option<Cause>,
+    /// The steps down to the goal that is left over for the cause.
+    pub steps: Vec<ShownStep>,
 }
 
 /// Without what was made in the bank past the mark.
@@ -40,14 +42,21 @@ fn given_back(judged: Judged, mark: Mark) -> Judged
     ensures bank { result.bank ≡ released judged.bank mark }
     ensures text { result.text ≡ judged.text }
     ensures cause { result.cause ≡ judged.cause }
+    ensures steps { result.steps ≡ judged.steps }
 {
     let Judged {
         mut bank,
         text,
         cause,
+        steps,
     } = judged;
     bank.release(mark);
-    Judged { bank, text, cause }
+    Judged {
+        bank,
+        text,
+        cause,
+        steps,
+    }
 }
 
 /// Why a goal is left over, by whether it is false, and whether it is stuck.
@@ -63,22 +72,23 @@ fn cause_if(falsity: bool, stuck: bool) -> Option<Cause>
     }
 }
 
+/// The cause, where moves did not prove the lemma.
+fn unless(proved: bool, cause: Cause) -> Option<Cause>
+    ensures { result ≡ unless proved cause }
+{
+    if proved { None } else { Some(cause) }
+}
+
 /// The cause that is told, where moves proved the lemma or did not: of a proved one only that its first goal is false.
 fn failing_by(cause: Cause, proved: bool) -> Option<Cause>
     ensures { result ≡ failing_by cause proved }
 {
     match cause {
         Cause::False => Some(Cause::False),
-        Cause::NoInduction => {
-            if proved {
-                None
-            } else {
-                Some(Cause::NoInduction)
-            }
-        }
-        Cause::Loop => Some(Cause::Loop),
-        Cause::Forbidden => Some(Cause::Forbidden),
-        Cause::Depth => Some(Cause::Depth),
+        Cause::NoInduction => unless(proved, Cause::NoInduction),
+        Cause::Loop => unless(proved, Cause::Loop),
+        Cause::Forbidden => unless(proved, Cause::Forbidden),
+        Cause::Depth => unless(proved, Cause::Depth),
     }
 }
 
@@ -113,10 +123,12 @@ fn told(
     let mut work = Work::new(bank, Log::new(alloc), 0);
     let falsity = is_false(&mut work, history, goal)?;
     let cause = cause_if(falsity, stuck);
+    let steps = Vec::new(alloc);
     Ok(Judged {
         bank: work.bank,
         text,
         cause,
+        steps,
     })
 }
 

@@ -4,8 +4,10 @@
 // the text of a goal
 mod texts;
 
-// what is told of the first goal
+// what is told of the first goal, and of the trace from it
 mod judging;
+mod tracing;
 
 pub use judging::{Judged, failing, judge};
 pub use texts::goal_text;
+pub use tracing::{Traced, trace_lemma};

@@ -19,7 +19,7 @@ use Rattle.nq_events.specs.OwnRefusals.{own_refusal}
 use Rattle.nq_events.specs.Reading.{event_of, event_refusal}
 use Rattle.nq_events.specs.Refusals.{Refusal}
 use Rattle.nq_comment.specs.Reports.{Answer, Accepted, AcceptedBy, Unmeasured, Failed, OutOfSteps, Proved, ProvedFrom, Report, Skipped, Undone, Taut, Eval, Inst}
-use Rattle.nq_comment.specs.declared.step.Cause.TheVariants.{False, NoInduction}
+use Rattle.nq_comment.specs.declared.step.Cause.TheVariants.{False}
 use Rattle.nq_goals.specs.Hints.{first_goal}
 use Rattle.nq_language.specs.Printing.{printed}
 use Rattle.nq_spelling.specs.ReadBack.{IsGrown, ground}
@@ -29,7 +29,7 @@ use Rattle.nq_spelling.proofs.EventSpelling.{events_are_spelled}
 use Rattle.nq_spelling.proofs.NameCounts.{few_names_begin, few_names_grow, few_names_stay, shells_bring_few_names}
 use Rattle.nq_spelling.proofs.ReadBack.{forms_grow_histories, printed_is_read_back}
 use Rattle.nq_answers.specs.Goals.{goal_text}
-use Rattle.nq_answers.specs.Steps.{Answers, AnswersUnless, IsDefined, IsOutcome, IsRecursionTried, IsTried, by_tautology, by_evaluation, by_instance, by_falsity, by_want, by_search, Runs, after, after_event, first_answer, is_taken, measure_by, not_yet, refusal_of, refused, undone, untaken}
+use Rattle.nq_answers.specs.Steps.{Answers, AnswersUnless, IsDefined, IsOutcome, IsRecursionTried, IsProvedByMoves, IsTried, by_tautology, by_evaluation, by_instance, by_falsity, by_want, by_search, Runs, after, after_event, first_answer, is_taken, measure_by, not_yet, refusal_of, refused, undone, untaken}
 use Rattle.nq_answers.proofs.Instances.{instance_derivable}
 use Rattle.nq_answers.proofs.SmallTautologies.{tautology_derivable}
 use Rattle.nq_answers.proofs.Deriving.{TakesNothing, no_refusal, refusal_nothing}
@@ -79,8 +79,8 @@ module _ (h : History) (form : Form) (made : IsMade h) where
       shown : Derivable h (holds t) → IsMade (h ++ logic.Lemma name classes t ∷ [])
       shown derivable = gains (logic.Lemma name classes t) name free (lemma_ready h name free classes t spelled derivable) (omega arith) grown
 
-      found : (Derivable h (holds t) × (answer ≡ ProvedFrom (goal_text (first_goal h hints t)) [])) ⊎ ((answer ≡ OutOfSteps) ⊎ (answer ≡ not_yet form)) → IsMade (after_event h e answer)
-      found (inl (derivable, so)) = answered e answer (ProvedFrom (goal_text (first_goal h hints t)) []) so (shown derivable)
+      found : IsProvedByMoves h hints t answer ⊎ ((answer ≡ OutOfSteps) ⊎ (answer ≡ not_yet form)) → IsMade (after_event h e answer)
+      found (inl moved) = answered e answer (ProvedFrom (goal_text (first_goal h hints t)) moved.steps) moved.answer_is (shown moved.shown)
       found (inr (inl so)) = answered e answer OutOfSteps so made
       found (inr (inr so)) = answered e answer (not_yet form) so made
 
@@ -89,7 +89,7 @@ module _ (h : History) (form : Form) (made : IsMade h) where
       by_way (by_evaluation valued) = answered e answer (Proved Eval) valued.answer_is (shown valued.shown)
       by_way (by_instance first so) = answered e answer (Proved Inst) so (shown (instance_derivable h t (ready_sound h made.ready) spelled.claimable.over.over first.instance))
       by_way (by_falsity falsified) = answered e answer (Failed (goal_text (first_goal h hints t)) [] False) falsified.answer_is made
-      by_way (by_want given_up) = answered e answer (Failed (goal_text (first_goal h hints t)) [] NoInduction) given_up.answer_is made
+      by_way (by_want given_up) = answered e answer (Failed (goal_text (first_goal h hints t)) given_up.steps given_up.cause) given_up.answer_is made
       by_way (by_search searched) = found searched.found
 
   -- a definition that is tried

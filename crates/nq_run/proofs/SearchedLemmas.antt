@@ -11,7 +11,7 @@ use Rattle.nq_logic.specs.Histories as logic
 use Rattle.nq_form.specs.Form.{Form}
 use Rattle.nq_log.specs.States.{Adds}
 use Rattle.nq_block.specs.Blocks.{IsBlock}
-use Rattle.nq_comment.specs.Reports.{Answer, Failed, OutOfSteps, ProvedFrom}
+use Rattle.nq_comment.specs.Reports.{Answer, Failed, OutOfSteps, ProvedFrom, ShownStep as ToldStep}
 use Rattle.nq_comment.specs.ReportViews.{answer_of, steps_of}
 use Rattle.nq_comment.specs.declared.step.Cause.{Cause}
 use Rattle.nq_comment.specs.declared.step.Cause.TheVariants.{False, NoInduction, Loop, Forbidden, Depth}
@@ -26,6 +26,7 @@ use Rattle.nq_first_goal.specs.declared.judging.Judged.{Judged}
 use Rattle.nq_first_goal.proofs.Judgements.{still_told}
 use Rattle.nq_kernel.specs.declared.verdict.Quick.{Quick}
 use Rattle.nq_answers.specs.Goals.{goal_text}
+use Rattle.nq_answers.specs.Shown.{ShowsTrace, ShowsTree}
 use Rattle.nq_answers.specs.Steps.{IsTried, by_falsity, by_want, by_search, not_yet}
 use Rattle.nq_run.specs.HistoryView.{history_of, SessionStands}
 use Rattle.nq_run.specs.Outcome.{AreBlocks}
@@ -57,24 +58,30 @@ module _ (old : Session) (form : Form) (name : Name) (classes : List RuleClass) 
     none : IsInNoFragment h t
     none = no_way h t result other found
 
-    by_cause : (cause : Cause) → IsCauseOf h hints first cause → IsTried h form hints t (Failed (goal_text first) [] cause)
-    by_cause False falsity = by_falsity (record { no_fragment = none; falsity = falsity; answer_is = refl })
-    by_cause NoInduction spent = by_want (record { no_fragment = none; spent = spent; answer_is = refl })
-    by_cause Loop never = absurd never
-    by_cause Forbidden never = absurd never
-    by_cause Depth never = absurd never
+    abbrev shown : List ToldStep
+    shown = steps_of judged.steps.items
 
-    told_by : (o : Option Cause) → known ≡ o → MatchOption o (IsFalse h first → ⊥) (IsCauseOf h hints first)
+    left_over : (cause : Cause) → ShowsTree h hints first shown cause → IsTried h form hints t (Failed (goal_text first) shown cause)
+    left_over cause tree = by_want (record { no_fragment = none; steps = shown; cause = cause; told = tree; answer_is = refl })
+
+    by_cause : (cause : Cause) → IsCauseOf h hints first shown cause → IsTried h form hints t (Failed (goal_text first) shown cause)
+    by_cause False falsity = by_falsity (record { no_fragment = none; falsity = falsity.0; answer_is = ap (λ (s : List ToldStep). Failed (goal_text first) s False) falsity.1 })
+    by_cause NoInduction left = left_over NoInduction left.tree
+    by_cause Loop left = left_over Loop left.tree
+    by_cause Forbidden left = left_over Forbidden left.tree
+    by_cause Depth left = left_over Depth left.tree
+
+    told_by : (o : Option Cause) → known ≡ o → MatchOption o (IsFalse h first → ⊥) (IsCauseOf h hints first shown)
     told_by o is =
-        subst (λ (o : Option Cause). MatchOption o (IsFalse h first → ⊥) (IsCauseOf h hints first)) is
-        (subst (λ (o : Option Cause). MatchOption o (IsFalse h first → ⊥) (IsCauseOf h hints first)) (sym known_is) (still_told h hints first judged.cause proved told.cause))
+        subst (λ (o : Option Cause). MatchOption o (IsFalse h first → ⊥) (IsCauseOf h hints first shown)) is
+        (subst (λ (o : Option Cause). MatchOption o (IsFalse h first → ⊥) (IsCauseOf h hints first shown)) (sym known_is) (still_told h hints first shown judged.cause proved told.cause))
 
-    -- the first goal is left over
-    pub failed : (cause : Cause) (r : Taken) (steps : Vec ShownStep Global) → known ≡ Some cause → steps.items ≡ [] → IsUntaken old (answer_of (answers.Failed judged.text steps cause)) r
+    -- a goal is left over
+    pub failed : (cause : Cause) (r : Taken) → known ≡ Some cause → IsUntaken old (answer_of (answers.Failed judged.text judged.steps cause)) r
         → TriesLemma h form name classes t hints logging r
-    failed cause r steps is empty kept =
-        let answer : Answer = Failed (goal_text first) [] cause in
-        let same : answer_of (answers.Failed judged.text steps cause) ≡ answer = ap₂ (λ (x : List ℕ) (s : List ShownStep). Failed x (steps_of s) cause) told.text empty in
+    failed cause r is kept =
+        let answer : Answer = Failed (goal_text first) shown cause in
+        let same : answer_of (answers.Failed judged.text judged.steps cause) ≡ answer = ap (λ (x : List ℕ). Failed x shown cause) told.text in
         lemma_left old form name classes t hints answer logging r refl (by_cause cause (told_by (Some cause) is)) (subst (λ (a : Answer). IsUntaken old a r) same kept)
 
     not_false : known ≡ None → IsFalse h first → ⊥
@@ -92,13 +99,13 @@ module _ (old : Session) (form : Form) (name : Name) (classes : List RuleClass) 
         lemma_left old form name classes t hints (not_yet form) logging r refl (by_search (record { no_fragment = none; not_false = not_false never; found = inr (inr refl) })) kept
 
     -- moves proved it
-    pub moved : (o : Result Taken AllocError) (line : ℕ) (steps : Vec ShownStep Global) (block : List ℕ) → known ≡ None → result ≡ Moves line → steps.items ≡ []
+    pub moved : (o : Result Taken AllocError) (line : ℕ) (steps : Vec ShownStep Global) (block : List ℕ) → known ≡ None → result ≡ Moves line → ShowsTrace h hints first (steps_of steps.items)
         → (logging ≡ true → AreBlocks h (found_claims name t result) block)
         → IfOk o (λ r. history_of r.session ≡ h ++ logic.Lemma name classes t ∷ []) → IfOk o (λ r. SessionStands r.session)
         → IfOk o (λ r. r.answer ≡ answers.ProvedFrom judged.text steps) → IfOk o (λ r. r.block ≡ block) → IfOk o (TriesLemma h form name classes t hints logging)
-    moved o line steps block never is empty text later stands says written =
-        let answer : Answer = ProvedFrom (goal_text first) [] in
-        let same : answer_of (answers.ProvedFrom judged.text steps) ≡ answer = ap₂ (λ (x : List ℕ) (s : List ShownStep). ProvedFrom x (steps_of s)) told.text empty in
+    moved o line steps block never is trace text later stands says written =
+        let answer : Answer = ProvedFrom (goal_text first) (steps_of steps.items) in
+        let same : answer_of (answers.ProvedFrom judged.text steps) ≡ answer = ap (λ (x : List ℕ). ProvedFrom x (steps_of steps.items)) told.text in
         proved_on o h form name classes t hints (answers.ProvedFrom judged.text steps) answer logging block refl
-        (by_search (record { no_fragment = none; not_false = not_false never; found = inl (moved_derivable h t result line is found, refl) }))
+        (by_search (record { no_fragment = none; not_false = not_false never; found = inl (record { shown = moved_derivable h t result line is found; steps = steps_of steps.items; told = trace; answer_is = refl }) }))
         later stands says same written (λ on. moved_block h name t result line block is (text on))

@@ -27,7 +27,7 @@ use crate::session::{Given, Session, Taken};
 use nq_bank::{Bank, Mark, Sym, TermId};
 use nq_block::Closing;
 use nq_comment::FormAnswer;
-use nq_first_goal::{failing, judge};
+use nq_first_goal::{failing, judge, trace_lemma};
 use nq_history::{Class, Entry, EntryKind};
 use nq_kernel::Prover;
 use nq_logtext::Text;
@@ -228,8 +228,8 @@ impl Session {
         })
     }
 
-    /// The answer to a lemma in no fragment: it fails where its first goal is false, and where that is stuck and moves did not prove
-    /// it; else it is told what was found.
+    /// The answer to a lemma in no fragment: it fails where its first goal is false, and where a goal is left over and moves did not
+    /// prove it; else it is told what was found.
     fn searched<P: Prover>(
         self,
         alloc: Global,
@@ -265,12 +265,18 @@ impl Session {
         let proved = is_proved(found);
         let known = failing(judged.cause, proved);
         if let Some(cause) = known {
-            let answer = FormAnswer::Failed(judged.text, Vec::new(alloc), cause);
+            let answer = FormAnswer::Failed(judged.text, judged.steps, cause);
             return Ok(session.untaken(alloc, given.mark, answer));
         }
         match found {
             Found::Moves(_) => {
-                let answer = FormAnswer::ProvedFrom(judged.text, Vec::new(alloc));
+                let Session { bank, history } = session;
+                let traced = trace_lemma(bank, &history, lemma.hints, lemma.goal)?;
+                let session = Session {
+                    bank: traced.bank,
+                    history,
+                };
+                let answer = FormAnswer::ProvedFrom(judged.text, traced.steps);
                 session.proved(prover, given.mark, lemma, classes, answer, block)
             }
             Found::OutOfSteps => { Ok(session.untaken(alloc, given.mark, FormAnswer::OutOfSteps)) }

@@ -3,3 +3,4 @@ pub mod Calls
 pub mod Candidates
 pub mod Common
 pub mod Destructors
+pub mod Left

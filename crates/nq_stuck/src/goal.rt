@@ -8,6 +8,7 @@ ghost use Rattle.nq_goals.specs.declared.kinds.Cause.TheVariants.{NoInduction};
 ghost use Rattle.nq_goals.specs.Inducting.{suggestions};
 ghost use Rattle.nq_goals.specs.Moves.{HasNoCandidate};
 ghost use Rattle.nq_goals.specs.Spent.{IsFalse, IsSpent, MayBeSpent};
+ghost use Rattle.nq_stuck.specs.Left.{IsLeftToInduction};
 
 use crate::common::has_generalization;
 use crate::destructors::has_elimination;
@@ -125,4 +126,25 @@ pub fn is_stuck(
     }
     let suggested = may_induct(bank, history, hints, goal)?;
     Ok(!suggested)
+}
+
+/// Is the goal in normal form, and has it no candidate of a move other than simplification and induction? It may be so where the
+/// answer is no, in the same cases.
+pub fn is_left_to_induction(
+    bank: &Bank,
+    history: &History,
+    hints: &Hints,
+    goal: &[TermId],
+) -> Result<bool, AllocError>
+    requires history { HistoryStands bank.now history.now }
+    requires hints { HintsStand bank.now hints.now }
+    requires goal { All (Stands bank.now) goal.now }
+    ensures { IfOk result (λ b. b ≡ true → IsLeftToInduction (events_at bank.now history.now) (hints_at bank.now hints.now) (terms_at bank.now goal.now)) }
+{
+    if is_normal(bank, history, hints, goal)? {
+        let led = may_go_on(bank, history, hints, goal)?;
+        Ok(!led)
+    } else {
+        Ok(false)
+    }
 }

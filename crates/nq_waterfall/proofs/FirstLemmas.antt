@@ -14,10 +14,10 @@ use Rattle.nq_waterfall.specs.Kinds.{goal_cause}
 use Rattle.nq_waterfall.specs.declared.trail.Trail.{Trail}
 use Rattle.nq_normal.specs.Definitions.{hints_at}
 use Rattle.nq_waterfall.specs.Trails.{above_at, steps_at}
-use Rattle.nq_waterfall.specs.Traces.{IsTrace}
+use Rattle.nq_traces.specs.Traces.{IsTrace}
 use Rattle.nq_waterfall.specs.Solved.{LeavesAt, TrailGoesOn}
 use Rattle.nq_waterfall.specs.Outcomes.{IsEmpty}
-use Rattle.nq_waterfall.proofs.TraceLemmas.{trace_laws_hold}
+use Rattle.nq_traces.proofs.TraceLemmas.{trace_laws_hold}
 
 module _ (history : List Entry) (hints : Hints) (work : Work) (before after : Trail) (goal : List TermId) (empty : IsEmpty before) where
   pub first_trace : TrailGoesOn history hints work before after goal 0 → IsTrace (events_at work.bank history) (hints_at work.bank hints) (terms_at work.bank goal) (steps_at work.bank after.trace.items)

@@ -38,10 +38,10 @@ use Rattle.nq_waterfall.specs.declared.solving.Tried.{Tried}
 use Rattle.nq_normal.specs.Definitions.{hints_at}
 use Rattle.nq_waterfall.specs.Trails.{goals_at, passed_at, above_onto, above_at, steps_at, step_at, AncestorStands, StepStands, TrailStands, IsWithAncestor, IsWithStep}
 use Rattle.nq_waterfall.specs.Ready.{CanMove, IsGoalIn, HoldingLaws}
-use Rattle.nq_waterfall.specs.Traces.{IsOneOf, TraceGoesOn}
+use Rattle.nq_traces.specs.Traces.{IsOneOf, TraceGoesOn}
 use Rattle.nq_waterfall.specs.Turns.{MoveAt, SpentAt, HaveLines}
 use Rattle.nq_waterfall.specs.Solved.{LeavesAt, TriedAt, GoesOnAt, IsSolved, TrailGoesOn, IsNextSolved, NextGoesOn, AreClosed, IsNoted, IsCutBack}
-use Rattle.nq_waterfall.proofs.TraceLemmas.{trace_laws_hold}
+use Rattle.nq_traces.proofs.TraceLemmas.{trace_laws_hold}
 use Rattle.nq_waterfall.proofs.SameLemmas.{steps_same, goals_same, trail_grown, goal_stands, goals_stand, scene_grown}
 
 pub trace_same : (h : History) (hints : model.Hints) (above : Above) (goal : List Term) (number : ℕ) (steps : List Step) → TraceGoesOn h hints above goal number steps steps

@@ -28,7 +28,7 @@ use Rattle.nq_waterfall.specs.Trails.{steps_at, StepStands}
 use Rattle.nq_kernel.specs.declared.verdict.PathStep.{PathStep}
 use Rattle.nq_waterfall.specs.declared.trail.Ancestor.{Ancestor}
 use Rattle.nq_waterfall.specs.Ready.{CanMove, IsGoalIn}
-use Rattle.nq_waterfall.specs.Traces.{IsTrace}
+use Rattle.nq_traces.specs.Traces.{IsTrace}
 use Rattle.nq_history.proofs.HistoryLemmas.{events_at-grown}
 use Rattle.nq_kernel.specs.Over.{IsTermOf, IsVariable}
 use Rattle.nq_waterfall.proofs.SameLemmas.{scene_grown, steps_same, hints_same}

@@ -1,7 +1,6 @@
 pub mod Kinds
 pub mod Trails
 pub mod Ready
-pub mod Traces
 pub mod Turns
 pub mod Solved
 pub mod Outcomes

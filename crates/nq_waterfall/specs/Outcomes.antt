@@ -14,7 +14,7 @@ use Rattle.nq_waterfall.specs.declared.first.Outcome.{Outcome}
 use Rattle.nq_waterfall.specs.declared.first.Outcome.TheVariants.{Proved, Failed, OutOfSteps}
 use Rattle.nq_normal.specs.Definitions.{hints_at}
 use Rattle.nq_waterfall.specs.Trails.{steps_at, StepStands}
-use Rattle.nq_waterfall.specs.Traces.{IsTrace}
+use Rattle.nq_traces.specs.Traces.{IsTrace}
 
 -- there is nothing on the trail
 pub record IsEmpty (trail : Trail) : Type 0 where

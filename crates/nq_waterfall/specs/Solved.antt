@@ -24,7 +24,7 @@ use Rattle.nq_waterfall.specs.declared.solving.Solved.{Solved}
 use Rattle.nq_waterfall.specs.declared.solving.Solved.TheVariants.{Proved, Unsolved}
 use Rattle.nq_normal.specs.Definitions.{hints_at}
 use Rattle.nq_waterfall.specs.Trails.{goals_at, above_at, steps_at, TrailStands}
-use Rattle.nq_waterfall.specs.Traces.{TraceGoesOn}
+use Rattle.nq_traces.specs.Traces.{TraceGoesOn}
 use Rattle.nq_waterfall.specs.Turns.{HaveLines}
 
 -- the goal of this number was not solved

@@ -20,7 +20,7 @@ use Rattle.nq_waterfall.specs.declared.first.Outcome.{Outcome}
 use Rattle.nq_waterfall.specs.declared.first.Outcome.TheVariants.{Proved, Failed, OutOfSteps}
 use Rattle.nq_normal.specs.Definitions.{hints_at}
 use Rattle.nq_waterfall.specs.Trails.{steps_at, StepStands}
-use Rattle.nq_waterfall.specs.Traces.{IsTrace}
+use Rattle.nq_traces.specs.Traces.{IsTrace}
 
 pub record UseStands (bank : Content) (u : Used) : Type 0 where
   pub term : Stands bank u.term

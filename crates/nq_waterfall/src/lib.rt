@@ -17,7 +17,7 @@ mod first;
 // instances that hints name
 mod uses;
 
-// laws of traces and of what is derivable
+// laws of what is derivable
 pub mod laws;
 
 pub use first::{Outcome, solve_first};

@@ -45,4 +45,4 @@ returns-clause-told c =
     let ids = c.in-Ok.first.items in
     let told = subst (λ (ts : List TermId). IsJudged (events_at later c.args.history.now) (hints_at later c.args.hints.now) (terms_at later ts) c.in_ok-judged.judged) c.as_slice.ensures.value c.in_ok-judged.ensures.told in
     judged_before c.args.bank later c.args.history.now c.args.hints.now c.args.goal c.requires.history c.in-Ok.ensures.grows ids c.in_ok-judged.judged c.given_back.result c.requires.hints c.in-Ok.ensures.are told
-    c.given_back.ensures.text c.given_back.ensures.cause
+    c.given_back.ensures.text c.given_back.ensures.cause c.given_back.ensures.steps

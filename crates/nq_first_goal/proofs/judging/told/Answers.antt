@@ -1,4 +1,4 @@
-use Rattle.std.proofs.Common.{◌∙◌, Option, sym, subst}
+use Rattle.std.proofs.Common.{◌∙◌, List, Option, ap, sym, subst}
 use Rattle.std.specs.Prelude.{All, IsTrue, ◌↔◌, MatchOption}
 use Rattle.nq_bank.specs.Content.{Content, Grows, terms_at}
 use Rattle.nq_history.specs.Events.{events_at}
@@ -7,7 +7,9 @@ use Rattle.nq_goals.specs.Spent.{IsFalse}
 use Rattle.nq_ground_goals.specs.Literals.{IsLiteral}
 use Rattle.nq_comment.specs.declared.step.Cause.{Cause}
 use Rattle.nq_event.specs.EventsAt.{hints_at}
-use Rattle.nq_first_goal.specs.Judging.{IsCauseOf}
+use Rattle.nq_comment.specs.Reports.{ShownStep as ToldStep}
+use Rattle.nq_comment.specs.ReportViews.{steps_of}
+use Rattle.nq_first_goal.specs.Judging.{IsCauseOf, cause_if}
 use Rattle.nq_first_goal.proofs.Judgements.{cause_told, work_stands}
 use Rattle.nq_first_goal.proofs.judging.told.Goals as goal
 
@@ -34,6 +36,7 @@ returns-clause-told c =
     record {
       text = c.in_ok-text.ensures;
       cause =
-          subst (λ (o : Option Cause). MatchOption o (IsFalse h goal_terms → ⊥) (IsCauseOf h (hints_at bank c.args.hints.now) goal_terms)) (sym c.cause_if-cause.ensures)
-          (cause_told h (hints_at bank c.args.hints.now) goal_terms c.in_ok-falsity.falsity c.in_ok-stuck.stuck falsity c.in_ok-stuck.ensures);
+          subst (λ (o : Option Cause). MatchOption o (IsFalse h goal_terms → ⊥) (IsCauseOf h (hints_at bank c.args.hints.now) goal_terms (steps_of c.new-steps.result.items))) (sym c.cause_if-cause.ensures)
+          (subst (λ (s : List ToldStep). MatchOption (cause_if c.in_ok-falsity.falsity c.in_ok-stuck.stuck) (IsFalse h goal_terms → ⊥) (IsCauseOf h (hints_at bank c.args.hints.now) goal_terms s)) (sym (ap steps_of c.new-steps.ensures.items))
+          (cause_told h (hints_at bank c.args.hints.now) goal_terms c.in_ok-falsity.falsity c.in_ok-stuck.stuck falsity c.in_ok-stuck.ensures));
     }

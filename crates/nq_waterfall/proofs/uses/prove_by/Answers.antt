@@ -14,7 +14,7 @@ use Rattle.nq_waterfall.specs.Kinds.{goal_cause}
 use Rattle.nq_waterfall.specs.declared.uses.Used.{Used}
 use Rattle.nq_normal.specs.Definitions.{hints_at}
 use Rattle.nq_waterfall.specs.Trails.{steps_at}
-use Rattle.nq_waterfall.specs.Traces.{IsTrace}
+use Rattle.nq_traces.specs.Traces.{IsTrace}
 use Rattle.nq_waterfall.specs.Ready.{IsGoalIn}
 use Rattle.nq_waterfall.specs.Outcomes.{IsOutcome}
 use Rattle.nq_waterfall.proofs.SameLemmas.{ready_grown}

@@ -1,14 +1,18 @@
-use Rattle.std.proofs.Common.{◌≡◌, ◌++◌, ◌∷◌, [], map, sym, subst}
+use Rattle.std.proofs.Common.{◌≡◌, ◌∙◌, ◌++◌, ◌∷◌, [], map, sym, subst}
 use Rattle.std.specs.Prelude.{IfOk}
 use Rattle.nq_sexp.specs.Tree.{tree}
 use Rattle.nq_logic.specs.Derivations.{Derivable}
 use Rattle.nq_logic.specs.Formulas.{holds}
 use Rattle.nq_logic.specs.Histories as logic
 use Rattle.nq_bank.specs.Content.{Content, term_at, text_at}
-use Rattle.nq_history.specs.Events.{class_of, events_at}
+use Rattle.nq_history.specs.Events.{class_of, events_at, HistoryStands}
+use Rattle.nq_kernel.specs.Over.{TermIsIn}
+use Rattle.nq_kernel.specs.Ready.{IsReady}
+use Rattle.nq_goals.specs.Hints.{first_goal}
+use Rattle.nq_answers.specs.Shown.{ShowsTrace}
 use Rattle.std.proofs.lemmas.Result.{IfOk-weaker}
 use Rattle.nq_comment.specs.Reports.{OutOfSteps}
-use Rattle.nq_comment.specs.ReportViews.{answer_of}
+use Rattle.nq_comment.specs.ReportViews.{answer_of, steps_of}
 use Rattle.nq_comment.specs.declared.answer.FormAnswer.TheVariants as answers
 use Rattle.nq_event.specs.EventsAt.{hints_at}
 use Rattle.nq_answers.specs.Steps.{not_yet}
@@ -46,16 +50,26 @@ not_yet-requires-clause-stands g c =
     let same = same_session old c.in_ok-judged.judged.bank c.in_ok-judged.ensures.bank in
     subst SessionStands (sym same) c.requires.stands
 
+pub trace_lemma-requires-clause-history : goal.trace_lemma-requires-clause-history
+trace_lemma-requires-clause-history g c =
+    subst (λ (b : Content). HistoryStands b c.args.self.history) (sym c.in_ok-judged.ensures.bank) c.requires.stands.history
+
+pub trace_lemma-requires-clause-ready : goal.trace_lemma-requires-clause-ready
+trace_lemma-requires-clause-ready g c = subst (λ (b : Content). IsReady (events_at b c.args.self.history)) (sym c.in_ok-judged.ensures.bank) c.requires.stands.ready
+
+pub trace_lemma-requires-clause-over : goal.trace_lemma-requires-clause-over
+trace_lemma-requires-clause-over g c = subst (λ (b : Content). TermIsIn b c.args.self.history c.args.lemma.goal) (sym c.in_ok-judged.ensures.bank) c.requires.spelled.claimable.over
+
 pub proved-requires-clause-stands : goal.proved-requires-clause-stands
 proved-requires-clause-stands g c =
     let old = c.args.self in
-    let same = same_session old c.in_ok-judged.judged.bank c.in_ok-judged.ensures.bank in
+    let same = same_session old c.in_ok-traced-in-Moves.traced.bank (c.in_ok-traced-in-Moves.ensures.bank ∙ c.in_ok-judged.ensures.bank) in
     subst SessionStands (sym same) c.requires.stands
 
 pub proved-requires-clause-shown : goal.proved-requires-clause-shown
 proved-requires-clause-shown g c =
     let old = c.args.self in
-    subst (λ (b : Content). Derivable (events_at b old.history) (holds (term_at b c.args.lemma.goal))) (sym c.in_ok-judged.ensures.bank)
+    subst (λ (b : Content). Derivable (events_at b old.history) (holds (term_at b c.args.lemma.goal))) (sym (c.in_ok-traced-in-Moves.ensures.bank ∙ c.in_ok-judged.ensures.bank))
     (moved_derivable (history_of old) (term_at old.bank c.args.lemma.goal) c.args.found _ c.in-Moves.is c.requires.found)
 
 pub unreachable-requires : goal.unreachable-requires
@@ -72,14 +86,14 @@ returns-in-Some-clause-tries g c =
     let hints = hints_at bank c.args.lemma.hints.now in
     let old = c.args.self in
     let same = same_session old c.in_ok-judged.judged.bank c.in_ok-judged.ensures.bank in
-    failed old form name classes t hints c.in_ok-judged.judged c.args.found c.args.given.logging c.requires.other c.requires.found c.in_ok-judged.ensures.told c.failing-known.result c.is_proved-proved.result c.failing-known.ensures c.in-Some.cause c.untaken.result c.new.result c.in-Some.is
-    c.new.ensures.items (subst (λ (s : Session). IsUntaken s (answer_of (answers.Failed c.in_ok-judged.judged.text c.new.result c.in-Some.cause)) c.untaken.result) same c.untaken.ensures)
+    failed old form name classes t hints c.in_ok-judged.judged c.args.found c.args.given.logging c.requires.other c.requires.found c.in_ok-judged.ensures.told c.failing-known.result c.is_proved-proved.result c.failing-known.ensures c.in-Some.cause c.untaken.result c.in-Some.is
+    (subst (λ (s : Session). IsUntaken s (answer_of (answers.Failed c.in_ok-judged.judged.text c.in_ok-judged.judged.steps c.in-Some.cause)) c.untaken.result) same c.untaken.ensures)
 
 pub returns-in-Some-clause-learnt : goal.returns-in-Some-clause-learnt
 returns-in-Some-clause-learnt g c = subst (g.P.Prover.has_learnt c.args.prover.now) (sym c.untaken.ensures.entries) c.requires.learnt
 
-pub returns-in-Moves-clause-tries : goal.returns-in-Moves-clause-tries
-returns-in-Moves-clause-tries g c =
+pub returns-in_ok-traced-in-Moves-clause-tries : goal.returns-in_ok-traced-in-Moves-clause-tries
+returns-in_ok-traced-in-Moves-clause-tries g c =
     let bank = c.args.self.bank in
     let h = history_of c.args.self in
     let form = tree c.args.given.form.now in
@@ -88,10 +102,13 @@ returns-in-Moves-clause-tries g c =
     let classes = map class_of c.args.classes.items in
     let hints = hints_at bank c.args.lemma.hints.now in
     let old = c.args.self in
-    let same = same_session old c.in_ok-judged.judged.bank c.in_ok-judged.ensures.bank in
-    moved old form name classes t hints c.in_ok-judged.judged c.args.found c.args.given.logging c.requires.other c.requires.found c.in_ok-judged.ensures.told c.failing-known.result c.is_proved-proved.result c.failing-known.ensures c.proved.result _ c.new-in-Moves.result c.args.block
-    c.in_default.is c.in-Moves.is c.new-in-Moves.ensures.items c.requires.written
-    (subst (λ (b : Content). IfOk c.proved.result (λ r. history_of r.session ≡ events_at b old.history ++ logic.Lemma (text_at b c.args.lemma.name) classes (term_at b c.args.lemma.goal) ∷ [])) c.in_ok-judged.ensures.bank c.proved.ensures.after)
+    let back = c.in_ok-traced-in-Moves.ensures.bank ∙ c.in_ok-judged.ensures.bank in
+    let trace =
+    subst (λ (b : Content). ShowsTrace (events_at b old.history) (hints_at b c.args.lemma.hints.now) (first_goal (events_at b old.history) (hints_at b c.args.lemma.hints.now) (term_at b c.args.lemma.goal)) (steps_of c.in_ok-traced-in-Moves.traced.steps.items)) c.in_ok-judged.ensures.bank
+    c.in_ok-traced-in-Moves.ensures.told in
+    moved old form name classes t hints c.in_ok-judged.judged c.args.found c.args.given.logging c.requires.other c.requires.found c.in_ok-judged.ensures.told c.failing-known.result c.is_proved-proved.result c.failing-known.ensures c.proved.result _ c.in_ok-traced-in-Moves.traced.steps c.args.block
+    c.in_default.is c.in-Moves.is trace c.requires.written
+    (subst (λ (b : Content). IfOk c.proved.result (λ r. history_of r.session ≡ events_at b old.history ++ logic.Lemma (text_at b c.args.lemma.name) classes (term_at b c.args.lemma.goal) ∷ [])) back c.proved.ensures.after)
     c.proved.ensures.stands_after c.proved.ensures.answer c.proved.ensures.block
 
 pub returns-in-OutOfSteps-clause-tries : goal.returns-in-OutOfSteps-clause-tries

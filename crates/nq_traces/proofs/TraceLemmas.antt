@@ -12,7 +12,7 @@ use Rattle.nq_goals.specs.Moves.{IsMove}
 use Rattle.nq_goals.specs.Trees.{Step, IsGoalAt, at_first, at_step, are_earlier}
 use Rattle.nq_goals.specs.Forests.{step}
 use Rattle.nq_goals.proofs.Steps.{earlier_joined}
-use Rattle.nq_waterfall.specs.Traces.{IsOneOf, IsLegalStep, IsTrace, TraceLaws}
+use Rattle.nq_traces.specs.Traces.{IsOneOf, IsLegalStep, IsTrace, TraceLaws}
 
 slice_get-more : {X : Type 0} (xs ys : List X) (k : ℕ) (x : X) → slice_get xs k ≡ Some x → slice_get (xs ++ ys) k ≡ Some x
 slice_get-more [] ys k x e = absurd cc

@@ -1,0 +1,17 @@
+pub mod FallLemmas
+pub mod GroundFalls
+pub mod DefinitionFalls
+pub mod ChangeLemmas
+pub mod AndLemmas
+pub mod CaseLemmas
+pub mod SiteLemmas
+pub mod GrowLemmas
+pub mod PartLemmas
+pub mod LeadLemmas
+pub mod TraceLemmas
+pub mod TestLemmas
+pub mod ChangeSteps
+pub mod NextLemmas
+pub mod LeadSteps
+pub mod FoundLemmas
+pub mod MoveSteps

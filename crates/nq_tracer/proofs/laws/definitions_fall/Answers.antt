@@ -1,0 +1,5 @@
+use Rattle.nq_tracer.proofs.DefinitionFalls.{definitions_fall_law}
+use Rattle.nq_tracer.proofs.laws.definitions_fall.Goals as goal
+
+pub returns : goal.returns
+returns c = definitions_fall_law c.nest_is_smaller.ensures c.measure_laws.ensures.size
