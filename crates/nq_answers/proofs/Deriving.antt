@@ -1,5 +1,5 @@
 -- What each event of a run claims holds in the history before it, and so does each event that stands at the end.
-use Rattle.std.proofs.Common.{◌≡◌, Bool, true, false, List, [], ◌∷◌, sym, subst, refl, inl, inr}
+use Rattle.std.proofs.Common.{◌≡◌, ℕ, Bool, true, false, List, [], ◌∷◌, sym, subst, refl, inl, inr}
 use Rattle.std.specs.Prelude.{◌++◌, ◌⊎◌, length, Option, None, Some, ⊤, if◌then◌else◌}
 use Rattle.nq_logic.specs.Terms.{Name, Term, IsTerm}
 use Rattle.nq_logic.specs.Formulas.{holds}
@@ -31,6 +31,7 @@ use Rattle.nq_answers.specs.Steps.{Answers, AnswersUnless, IsDefined, IsOutcome,
 use Rattle.nq_answers.specs.Claims.{claims_of, event_claims}
 use Rattle.nq_answers.specs.Derived.{EventsHold}
 use Rattle.nq_answers.specs.Laws.{RunsAreDerived}
+use Rattle.nq_answers.specs.Spending.{IsUsedUp}
 use Rattle.nq_answers.proofs.Instances.{instance_derivable}
 use Rattle.nq_answers.proofs.SmallTautologies.{tautology_derivable}
 
@@ -83,7 +84,7 @@ not_claimed h e answer k = subst (λ (b : Bool). ClaimsHold h (if b then event_c
 not_after : (h : History) (e : Event) (answer : Answer) → is_taken answer ≡ false → IsSound h → IsSound (after_event h e answer)
 not_after h e answer k sound = subst (λ (b : Bool). IsSound (if b then history_after h e (measure_by e answer) else h)) (sym k) sound
 
-module _ (h : History) (sound : IsSound h) (form : Form) where
+module _ (limit : ℕ) (h : History) (sound : IsSound h) (form : Form) where
   -- an answer that is known
   answered : (e : Event) (answer own : Answer) → answer ≡ own → HoldsAfter h e own → HoldsAfter h e answer
   answered e answer own same holds = subst (HoldsAfter h e) (sym same) holds
@@ -98,7 +99,7 @@ module _ (h : History) (sound : IsSound h) (form : Form) where
       (((subst (λ (n : Name). is_in_use n h ≡ false) (sym same) unused, claim), tt), added_holds added unused holds)
 
   -- a lemma that is tried, over the functions of the history
-  lemma_holds : (name : Name) (classes : List RuleClass) (t : Term) (hints : Hints) (answer : Answer) → IsTerm (symbols_of h) t → is_in_use name h ≡ false → IsTried h form hints t answer
+  lemma_holds : (name : Name) (classes : List RuleClass) (t : Term) (hints : Hints) (answer : Answer) → IsTerm (symbols_of h) t → is_in_use name h ≡ false → IsTried limit h form hints t answer
       → HoldsAfter h (ProveLemma name classes t hints) answer
   lemma_holds name classes t hints answer over unused tried = by_way tried
     where
@@ -111,12 +112,12 @@ module _ (h : History) (sound : IsSound h) (form : Form) where
       proved : (quick : Quick) → answer ≡ Proved quick → Derivable h (holds t) → HoldsAfter h e answer
       proved quick so shown = answered e answer (Proved quick) so (claimed shown)
 
-      found : IsProvedByMoves h hints t answer ⊎ ((answer ≡ OutOfSteps) ⊎ (answer ≡ not_yet form)) → HoldsAfter h e answer
+      found : IsProvedByMoves h hints t answer ⊎ (((answer ≡ OutOfSteps) × IsUsedUp limit h) ⊎ (answer ≡ not_yet form)) → HoldsAfter h e answer
       found (inl moved) = answered e answer (ProvedFrom (goal_text (first_goal h hints t)) moved.steps) moved.answer_is (claimed moved.shown)
-      found (inr (inl so)) = answered e answer OutOfSteps so (tt, sound)
+      found (inr (inl spent)) = answered e answer OutOfSteps spent.0 (tt, sound)
       found (inr (inr so)) = answered e answer (not_yet form) so (tt, sound)
 
-      by_way : IsTried h form hints t answer → HoldsAfter h e answer
+      by_way : IsTried limit h form hints t answer → HoldsAfter h e answer
       by_way (by_tautology small so) = proved Taut so (tautology_derivable h t over small)
       by_way (by_evaluation valued) = proved Eval valued.answer_is valued.shown
       by_way (by_instance first so) = proved Inst so (instance_derivable h t sound over first.instance)
@@ -151,7 +152,7 @@ module _ (h : History) (sound : IsSound h) (form : Form) where
       by_test true recursive so = recursion so
 
   -- an event without a refusal
-  outcome_holds : (e : Event) (answer : Answer) → event_refusal h form ≡ None → event_of h form ≡ e → HasEventTerms h e → untaken h e ≡ None → IsOutcome h form e answer → HoldsAfter h e answer
+  outcome_holds : (e : Event) (answer : Answer) → event_refusal h form ≡ None → event_of h form ≡ e → HasEventTerms h e → untaken h e ≡ None → IsOutcome limit h form e answer → HoldsAfter h e answer
   outcome_holds BootStrap answer none is terms taken so = answered BootStrap answer Accepted so ((tt, tt), tt)
   outcome_holds (AddShell shell) answer none is terms taken so =
       let addable = allowed_event h (AddShell shell) taken in
@@ -178,30 +179,30 @@ module _ (h : History) (sound : IsSound h) (form : Form) where
       answered (Undo name) answer (Undone (undone h name)) so ((tt, tt), sound_after h (Undoes name) sound tt)
   outcome_holds PassedOver answer none is terms taken so = answered PassedOver answer Skipped so (tt, sound)
 
-  answer_holds : (answer : Answer) (o : Option Answer) → refusal_of h form ≡ o → TakesNothing o → AnswersUnless o h form (event_of h form) answer → HoldsAfter h (event_of h form) answer
+  answer_holds : (answer : Answer) (o : Option Answer) → refusal_of h form ≡ o → TakesNothing o → AnswersUnless limit o h form (event_of h form) answer → HoldsAfter h (event_of h form) answer
   answer_holds answer None is nothing so =
       let none : event_refusal h form ≡ None = none_refused (event_refusal h form) (untaken h (event_of h form)) is in
       outcome_holds (event_of h form) answer none refl (events_have_terms h form none) (none_later (event_refusal h form) (untaken h (event_of h form)) is) so
   answer_holds answer (Some refusal) is nothing so =
       answered (event_of h form) answer refusal so (not_claimed h (event_of h form) refusal nothing, not_after h (event_of h form) refusal nothing sound)
 
-  step_holds : (answer : Answer) → Answers h form answer → HoldsAfter h (event_of h form) answer
+  step_holds : (answer : Answer) → Answers limit h form answer → HoldsAfter h (event_of h form) answer
   step_holds answer so = answer_holds answer (refusal_of h form) refl (refusal_nothing h form) so
 
 -- ---- the steps of a run
 
-runs_hold : (old : History) (forms : Forms) (reports : List Report) (new : History) → IsSound old → Runs old forms reports new → EventsHold old forms reports × IsSound new
-runs_hold old end [] new sound runs = (tt, subst IsSound (sym runs) sound)
-runs_hold old end (r ∷ rs) new sound runs = absurd runs
-runs_hold old (dotted f) [] new sound runs = absurd runs
-runs_hold old (dotted f) (r ∷ rs) new sound runs = absurd runs
-runs_hold old (next f fs) [] new sound runs = absurd runs
-runs_hold old (next f fs) (r ∷ rs) new sound runs =
-    let first = step_holds old sound f r.answer runs.0.answer in
-    let rest = runs_hold (after old f r.answer) fs rs new first.1 runs.1 in
+runs_hold : (limit : ℕ) (old : History) (forms : Forms) (reports : List Report) (new : History) → IsSound old → Runs limit old forms reports new → EventsHold old forms reports × IsSound new
+runs_hold limit old end [] new sound runs = (tt, subst IsSound (sym runs) sound)
+runs_hold limit old end (r ∷ rs) new sound runs = absurd runs
+runs_hold limit old (dotted f) [] new sound runs = absurd runs
+runs_hold limit old (dotted f) (r ∷ rs) new sound runs = absurd runs
+runs_hold limit old (next f fs) [] new sound runs = absurd runs
+runs_hold limit old (next f fs) (r ∷ rs) new sound runs =
+    let first = step_holds limit old sound f r.answer runs.0.answer in
+    let rest = runs_hold limit (after old f r.answer) fs rs new first.1 runs.1 in
     ((first.0, rest.0), rest.1)
 
 pub reported : RunsAreDerived
-reported forms reports history runs =
-    let holds = runs_hold [] forms reports history tt runs in
+reported limit forms reports history runs =
+    let holds = runs_hold limit [] forms reports history tt runs in
     record { history = history; runs = runs; hold = holds.0; sound = holds.1 }

@@ -1,5 +1,5 @@
 -- What a run says of its events: what it claims holds, of each event in the history just before it.
-use Rattle.std.specs.Prelude.{List, [], ◌∷◌, ⊤}
+use Rattle.std.specs.Prelude.{ℕ, List, [], ◌∷◌, ⊤}
 use Rattle.nq_logic.specs.Histories.{History}
 use Rattle.nq_form.specs.Form.{Forms, end, dotted, next}
 use Rattle.nq_log.specs.Laws.{ClaimsHold, IsSound}
@@ -16,10 +16,10 @@ EventsHold old (next form forms) [] = ⊤
 EventsHold old end reports = ⊤
 EventsHold old (dotted form) reports = ⊤
 
--- These forms give these reports from the ground history. Each event that was accepted or proved holds in the history before it,
+-- These forms give these reports from the ground history, where each event may take so many steps. Each event that was accepted or proved holds in the history before it,
 -- and so does each event that stands at the end, in the history of the events before it that stand.
-pub record Reported (forms : Forms) (reports : List Report) : Type 0 where
+pub record Reported (limit : ℕ) (forms : Forms) (reports : List Report) : Type 0 where
   pub history : History
-  pub runs : Runs [] forms reports history
+  pub runs : Runs limit [] forms reports history
   pub hold : EventsHold [] forms reports
   pub sound : IsSound history

@@ -2,6 +2,7 @@ pub mod Headers
 pub mod Goals
 pub mod Shown
 pub mod Measuring
+pub mod Spending
 pub mod Steps
 pub mod Claims
 pub mod Derived

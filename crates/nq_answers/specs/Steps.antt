@@ -28,6 +28,7 @@ use Rattle.nq_answers.specs.Headers.{name_of, word_of}
 use Rattle.nq_answers.specs.Goals.{goal_text}
 use Rattle.nq_answers.specs.Measuring.{AreTrials}
 use Rattle.nq_answers.specs.Shown.{ShowsTrace, ShowsTree}
+use Rattle.nq_answers.specs.Spending.{IsUsedUp}
 
 -- the first of two answers that there is
 abbrev pub first_answer : Option Answer → Option Answer → Option Answer
@@ -90,12 +91,12 @@ pub record IsProvedByMoves (h : History) (hints : Hints) (t : Term) (answer : An
   pub told : ShowsTrace h hints (first_goal h hints t) steps
   pub answer_is : answer ≡ ProvedFrom (goal_text (first_goal h hints t)) steps
 
--- The lemma is in no fragment and its first goal is not false. It is proved by moves; or it is not proved within the steps; or,
--- for now, not at all.
-pub record IsSearched (h : History) (form : Form) (hints : Hints) (t : Term) (answer : Answer) : Type 0 where
+-- The lemma is in no fragment and its first goal is not false. It is proved by moves; or work that began with this limit and no
+-- step used has used them all; or, for now, it is not proved at all.
+pub record IsSearched (limit : ℕ) (h : History) (form : Form) (hints : Hints) (t : Term) (answer : Answer) : Type 0 where
   pub no_fragment : IsInNoFragment h t
   pub not_false : IsFalse h (first_goal h hints t) → ⊥
-  pub found : IsProvedByMoves h hints t answer ⊎ ((answer ≡ OutOfSteps) ⊎ (answer ≡ not_yet form))
+  pub found : IsProvedByMoves h hints t answer ⊎ (((answer ≡ OutOfSteps) × IsUsedUp limit h) ⊎ (answer ≡ not_yet form))
 
 -- in no fragment, and each literal of its first goal is ground and has the value F
 pub record IsFalsified (h : History) (hints : Hints) (t : Term) (answer : Answer) : Type 0 where
@@ -103,10 +104,11 @@ pub record IsFalsified (h : History) (hints : Hints) (t : Term) (answer : Answer
   pub falsity : IsFalse h (first_goal h hints t)
   pub answer_is : answer ≡ Failed (goal_text (first_goal h hints t)) [] False
 
--- In no fragment, and some goal is left over for this cause: the steps that are told are the tree of a failure from the first
--- goal. Without a step it is the first goal itself that is left over.
+-- In no fragment, with a first goal that is not false, and some goal is left over for this cause: the steps that are told are the
+-- tree of a failure from the first goal. Without a step it is the first goal itself that is left over.
 pub record IsGivenUp (h : History) (hints : Hints) (t : Term) (answer : Answer) : Type 0 where
   pub no_fragment : IsInNoFragment h t
+  pub not_false : IsFalse h (first_goal h hints t) → ⊥
   pub steps : List ShownStep
   pub cause : Cause
   pub told : ShowsTree h hints (first_goal h hints t) steps cause
@@ -120,37 +122,37 @@ pub record IsEvaluated (h : History) (t : Term) (answer : Answer) : Type 0 where
 
 -- A lemma is proved by the first fragment that holds it, whatever its hints are. Where none does, it fails if its first goal is
 -- false. Else it may fail with the tree of a failure, and is searched for.
-pub data IsTried (h : History) (form : Form) (hints : Hints) (t : Term) (answer : Answer) : Type 0 where
-  by_tautology : IsSmallTautology t → answer ≡ Proved Taut → IsTried h form hints t answer
-  by_evaluation : IsEvaluated h t answer → IsTried h form hints t answer
-  by_instance : IsFirstByInstance h t → answer ≡ Proved Inst → IsTried h form hints t answer
-  by_falsity : IsFalsified h hints t answer → IsTried h form hints t answer
-  by_want : IsGivenUp h hints t answer → IsTried h form hints t answer
-  by_search : IsSearched h form hints t answer → IsTried h form hints t answer
+pub data IsTried (limit : ℕ) (h : History) (form : Form) (hints : Hints) (t : Term) (answer : Answer) : Type 0 where
+  by_tautology : IsSmallTautology t → answer ≡ Proved Taut → IsTried limit h form hints t answer
+  by_evaluation : IsEvaluated h t answer → IsTried limit h form hints t answer
+  by_instance : IsFirstByInstance h t → answer ≡ Proved Inst → IsTried limit h form hints t answer
+  by_falsity : IsFalsified h hints t answer → IsTried limit h form hints t answer
+  by_want : IsGivenUp h hints t answer → IsTried limit h form hints t answer
+  by_search : IsSearched limit h form hints t answer → IsTried limit h form hints t answer
 
 -- how many events an undo of this name takes away: that event and all later ones
 abbrev pub undone : History → Name → ℕ
 undone h name = length h - length (before_event name h)
 
--- the answers that an event may get where no refusal applies
-abbrev pub IsOutcome : History → Form → Event → Answer → Type 0
-IsOutcome h form BootStrap answer = answer ≡ Accepted
-IsOutcome h form (AddShell shell) answer = answer ≡ Accepted
-IsOutcome h form (Dcl name formals) answer = answer ≡ Accepted
-IsOutcome h form (Defn name formals body measures) answer = IsDefined (mentions name body) h name formals body measures answer
-IsOutcome h form (AddAxiom name classes t) answer = answer ≡ Accepted
-IsOutcome h form (ProveLemma name classes t hints) answer = IsTried h form hints t answer
-IsOutcome h form (Toggle name old disabled) answer = answer ≡ Accepted
-IsOutcome h form (Undo name) answer = answer ≡ Undone (undone h name)
-IsOutcome h form PassedOver answer = answer ≡ Skipped
+-- the answers that an event may get where no refusal applies, and its work may take so many steps
+abbrev pub IsOutcome : ℕ → History → Form → Event → Answer → Type 0
+IsOutcome limit h form BootStrap answer = answer ≡ Accepted
+IsOutcome limit h form (AddShell shell) answer = answer ≡ Accepted
+IsOutcome limit h form (Dcl name formals) answer = answer ≡ Accepted
+IsOutcome limit h form (Defn name formals body measures) answer = IsDefined (mentions name body) h name formals body measures answer
+IsOutcome limit h form (AddAxiom name classes t) answer = answer ≡ Accepted
+IsOutcome limit h form (ProveLemma name classes t hints) answer = IsTried limit h form hints t answer
+IsOutcome limit h form (Toggle name old disabled) answer = answer ≡ Accepted
+IsOutcome limit h form (Undo name) answer = answer ≡ Undone (undone h name)
+IsOutcome limit h form PassedOver answer = answer ≡ Skipped
 
-abbrev pub AnswersUnless : Option Answer → History → Form → Event → Answer → Type 0
-AnswersUnless (Some refusal) h form event answer = answer ≡ refusal
-AnswersUnless None h form event answer = IsOutcome h form event answer
+abbrev pub AnswersUnless : ℕ → Option Answer → History → Form → Event → Answer → Type 0
+AnswersUnless limit (Some refusal) h form event answer = answer ≡ refusal
+AnswersUnless limit None h form event answer = IsOutcome limit h form event answer
 
 -- the answers that a form may get: its first refusal exactly where one applies, and 9 only where none does
-abbrev pub Answers : History → Form → Answer → Type 0
-Answers h form answer = AnswersUnless (refusal_of h form) h form (event_of h form) answer
+abbrev pub Answers : ℕ → History → Form → Answer → Type 0
+Answers limit h form answer = AnswersUnless limit (refusal_of h form) h form (event_of h form) answer
 
 -- whether an event of this answer was taken: accepted, proved or undone
 abbrev pub is_taken : Answer → Bool
@@ -197,18 +199,18 @@ after_event h event answer = if is_taken answer then history_after h event (meas
 abbrev pub after : History → Form → Answer → History
 after h form answer = after_event h (event_of h form) answer
 
--- one form, its report, and the history after it
-pub record Step (old : History) (form : Form) (report : Report) (new : History) : Type 0 where
+-- one form, its report, and the history after it, where each event may take so many steps
+pub record Step (limit : ℕ) (old : History) (form : Form) (report : Report) (new : History) : Type 0 where
   pub word : report.word ≡ word_of form
   pub name : report.name ≡ name_of form
-  pub answer : Answers old form report.answer
+  pub answer : Answers limit old form report.answer
   pub history : new ≡ after old form report.answer
 
 -- the forms give these reports in turn, and this history
-abbrev pub Runs : History → Forms → List Report → History → Type 0
-Runs old end [] new = new ≡ old
-Runs old (next form forms) (report ∷ reports) new =
-    let middle = after old form report.answer in Step old form report middle × Runs middle forms reports new
-Runs old end (report ∷ reports) new = ⊥
-Runs old (next form forms) [] new = ⊥
-Runs old (dotted form) reports new = ⊥
+abbrev pub Runs : ℕ → History → Forms → List Report → History → Type 0
+Runs limit old end [] new = new ≡ old
+Runs limit old (next form forms) (report ∷ reports) new =
+    let middle = after old form report.answer in Step limit old form report middle × Runs limit middle forms reports new
+Runs limit old end (report ∷ reports) new = ⊥
+Runs limit old (next form forms) [] new = ⊥
+Runs limit old (dotted form) reports new = ⊥

@@ -1,17 +1,16 @@
 -- The first literal of a clause of variables and NOTs of variables can be dropped.
-use Rattle.std.proofs.Common.{◌≡◌, ◌∙◌, ℕ, zero, suc, Bool, true, false, ◌||◌, ◌&&◌, List, [], ◌∷◌, ◌++◌, length, map, refl, sym, ap, ap₂, subst, inl, inr}
+use Rattle.std.proofs.Common.{◌≡◌, ◌∙◌, ℕ, zero, suc, Bool, true, false, ◌||◌, ◌&&◌, List, [], ◌∷◌, ◌++◌, length, refl, sym, ap, ap₂, inl}
 use Rattle.std.specs.Prelude.{not, bytes_eq, if◌then◌else◌}
-use Rattle.nq_logic.specs.Terms.{Name, Term, Variable, IsAmong}
-use Rattle.nq_logic.specs.Words.{not_term}
+use Rattle.nq_logic.specs.Terms.{Name, Term, IsAmong}
 use Rattle.nq_logic.specs.Histories.{History}
 use Rattle.nq_logic.specs.Names.{has_name}
 use Rattle.nq_bank.specs.Parts.{occurs}
-use Rattle.nq_proof.specs.Clauses.{Clause, has_term, same_term, without}
+use Rattle.nq_proof.specs.Clauses.{Clause, same_term, without}
 use Rattle.nq_goals.specs.Occurrences.{atom_of}
 use Rattle.nq_goals.specs.Recursion.{holds_recursive}
-use Rattle.nq_goals.specs.Dropping.{can_drop, droppings_from, group_from, group_of, is_empty, is_irrelevant, is_lone_call, one_holds_recursive, others, shares, tied, untied}
+use Rattle.nq_goals.specs.Dropping.{can_drop, droppings_from, group_from, group_of, is_empty, is_lone_call, others, shares, tied, untied}
 use Rattle.nq_goals.proofs.Matches.{same_of_itself}
-use Rattle.nq_decided.specs.Literals.{Signed, literal, literals, AreApart}
+use Rattle.nq_decided.specs.Literals.{Signed, literal, literals}
 use Rattle.nq_decided.specs.Laws.{LiteralsAreDropped}
 use Rattle.nq_decided.proofs.NormalClauses.{ahead, names, other_way}
 
@@ -65,7 +64,7 @@ module _ (s : Signed) where
   alone zero ss e = refl
   alone (suc n) ss e = ap₂ (λ (a b : Clause). group_from n ((t ∷ []) ++ a) b) (none_tied ss e) (all_untied ss e) ∙ alone n ss e
 
-  none_without : (ss : List Signed) → has_name s.name (names ss) ≡ false → without t (literals ss) ≡ literals ss
+  pub none_without : (ss : List Signed) → has_name s.name (names ss) ≡ false → without t (literals ss) ≡ literals ss
   none_without [] e = refl
   none_without (u ∷ ss) e =
       ap (λ (b : Bool). if b then without t (literals ss) else literal u ∷ without t (literals ss)) (apart_same s.name s.denied u.name u.denied (or_first (bytes_eq s.name u.name) (has_name s.name (names ss)) e))

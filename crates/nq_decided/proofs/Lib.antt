@@ -1,2 +1,5 @@
 pub mod NormalClauses
 pub mod DroppedLiterals
+pub mod Truths
+pub mod FalseClauses
+pub mod FailedTrees

@@ -1,25 +1,26 @@
 -- Clauses of variables and NOTs of variables are normal.
-use Rattle.std.proofs.Common.{◌≡◌, ◌∙◌, ℕ, Bool, true, false, ◌||◌, ◌&&◌, Option, Some, None, List, [], ◌∷◌, ◌++◌, append_assoc, map, refl, sym, ap, ap₂, subst}
+use Rattle.std.proofs.Common.{◌≡◌, ◌∙◌, Bool, true, false, ◌||◌, ◌&&◌, Option, Some, None, List, [], ◌∷◌, ◌++◌, append_assoc, map, refl, sym, ap, subst}
 use Rattle.std.specs.Prelude.{not, bytes_eq, codes, if◌then◌else◌, is_some}
 use Rattle.std.specs.List.{list_any, list_all}
 use Rattle.std.proofs.lemmas.List.{map-append}
 use Rattle.std.proofs.lemmas.Slice.Eq.{bytes_eq-Decides}
-use Rattle.nq_logic.specs.Terms.{Name, Term, Variable, Function, Applied, Substitution}
+use Rattle.nq_logic.specs.Terms.{Name, Term, Variable, Function, Applied, Substitution, Each}
+use Rattle.nq_logic.proofs.Lists.{each_mono}
 use Rattle.nq_logic.specs.Words.{not_term}
 use Rattle.nq_logic.specs.Numerals.{number_of}
 use Rattle.nq_logic.specs.Values.{is_tree_value}
 use Rattle.nq_logic.specs.Names.{are_distinct, has_name}
 use Rattle.nq_logic.specs.Histories.{History, Event, AddShell, Declaration, Defines, Axiom, Lemma, Toggle, RuleClass}
-use Rattle.nq_logic.specs.RuleShapes.{is_call, is_rewritable, are_rewritable, and_parts, rule_parts, RuleParts, left_side, is_function_named}
+use Rattle.nq_logic.specs.RuleShapes.{is_call, is_rewritable, are_rewritable, and_parts, rule_parts, is_function_named}
 use Rattle.nq_proof.specs.Clauses.{Clause, has_term, has_opposite, same_term}
 use Rattle.nq_events.specs.Events.{Hints}
 use Rattle.nq_goals.specs.Hints.{is_enabled_for}
 use Rattle.nq_goals.specs.Functions.{is_call_among, is_openable, propositional}
 use Rattle.nq_goals.specs.Matching.{is_instance, is_permutative, match_from}
-use Rattle.nq_goals.specs.Occurrences.{atoms_of, open_in, open_terms, open_terms_all}
+use Rattle.nq_goals.specs.Occurrences.{atoms_of, open_in, open_terms_all}
 use Rattle.nq_goals.specs.Normal.{IsNormal, event_parts, is_decided_test, is_rewrite, is_settled, is_without, kind_of_part, kind_of_equation, parts_if_rule, parts_of_events, plain_parts, rewrites, rewrites_by, Everywhere, Permutes, Literally, PartKind}
 use Rattle.nq_decided.specs.Literals.{Signed, literal, literals, AreApart}
-use Rattle.nq_decided.specs.Shaped.{IsShaped, is_shaped, is_shaped_rule}
+use Rattle.nq_decided.specs.Shaped.{is_shaped, is_shaped_rule}
 use Rattle.nq_decided.specs.Laws.{ClausesAreNormal}
 
 -- ---- tests on booleans and lists
@@ -255,5 +256,52 @@ clauses_are_normal h hints ss shaped apart = record {
   none_openable = none_open (is_openable h hints) ss (no_openable h hints);
   no_decided_test = none_open (is_decided_test h) ss (λ x. refl);
   none_rewritable = events_rewrite h hints h ss shaped.rewriting;
+  none_settled = either_false (list_any is_settled (atoms_of (literals ss))) (has_opposite (literals ss) (literals ss)) (none_in_atoms is_settled ss unsettled) (opposites [] ss apart);
+}
+
+-- ---- clauses of literals that are normal alone
+
+each_any : {X Y : Type 0} (f : X → Y) (test : Y → Bool) (xs : List X) → Each (λ x. test (f x) ≡ false) xs → list_any test (map f xs) ≡ false
+each_any f test [] each = refl
+each_any f test (x ∷ xs) each = either_false (test (f x)) (list_any test (map f xs)) each.0 (each_any f test xs each.1)
+
+kind_rewrites : (k : PartKind) (part : Term) (ss : List Signed) → Each (λ s. rewrites_by k part (literal s ∷ []) ≡ false) ss → rewrites_by k part (literals ss) ≡ false
+kind_rewrites (Everywhere left) part ss each =
+    ap (list_any (is_instance left)) (open_clause ss)
+    ∙ each_any variable (is_instance left) ss
+    (each_mono (λ s. rewrites_by (Everywhere left) part (literal s ∷ []) ≡ false) (λ s. is_instance left (variable s) ≡ false)
+    (λ s e. or_first (is_instance left (variable s)) false (sym (ap (list_any (is_instance left)) (open_clause (s ∷ []))) ∙ e)) ss each)
+kind_rewrites Permutes part ss each = refl
+kind_rewrites Literally part ss each =
+    either_false (list_any (is_instance part) (literals ss)) (list_any (is_instance part) (atoms_of (literals ss)))
+    (each_any literal (is_instance part) ss
+    (each_mono (λ s. rewrites_by Literally part (literal s ∷ []) ≡ false) (λ s. is_instance part (literal s) ≡ false)
+    (λ s e. or_first (is_instance part (literal s)) false (or_first (list_any (is_instance part) (literal s ∷ [])) (list_any (is_instance part) (atoms_of (literal s ∷ []))) e)) ss each))
+    (ap (list_any (is_instance part)) (atoms ss)
+    ∙ each_any variable (is_instance part) ss
+    (each_mono (λ s. rewrites_by Literally part (literal s ∷ []) ≡ false) (λ s. is_instance part (variable s) ≡ false)
+    (λ s e. or_first (is_instance part (variable s)) false
+    (sym (ap (list_any (is_instance part)) (atoms (s ∷ []))) ∙ or_second (list_any (is_instance part) (literal s ∷ [])) (list_any (is_instance part) (atoms_of (literal s ∷ []))) e)) ss each))
+
+parts_together : (parts : List Term) (ss : List Signed) → Each (λ s. list_any (rewrites (literal s ∷ [])) parts ≡ false) ss → list_any (rewrites (literals ss)) parts ≡ false
+parts_together [] ss each = refl
+parts_together (part ∷ parts) ss each =
+    either_false (rewrites (literals ss) part) (list_any (rewrites (literals ss)) parts)
+    (kind_rewrites (kind_of_part part) part ss
+    (each_mono (λ s. list_any (rewrites (literal s ∷ [])) (part ∷ parts) ≡ false) (λ s. rewrites (literal s ∷ []) part ≡ false)
+    (λ s e. or_first (rewrites (literal s ∷ []) part) (list_any (rewrites (literal s ∷ [])) parts) e) ss each))
+    (parts_together parts ss
+    (each_mono (λ s. list_any (rewrites (literal s ∷ [])) (part ∷ parts) ≡ false) (λ s. list_any (rewrites (literal s ∷ [])) parts ≡ false)
+    (λ s e. or_second (rewrites (literal s ∷ []) part) (list_any (rewrites (literal s ∷ [])) parts) e) ss each))
+
+-- a clause of such literals is normal where each of them is
+pub normal_together : (h : History) (hints : Hints) (ss : List Signed) → Each (λ s. IsNormal h hints (literal s ∷ [])) ss → AreApart ss → IsNormal h hints (literals ss)
+normal_together h hints ss each apart = record {
+  no_connective = none_open (is_call_among propositional) ss (λ x. refl);
+  none_openable = none_open (is_openable h hints) ss (no_openable h hints);
+  no_decided_test = none_open (is_decided_test h) ss (λ x. refl);
+  none_rewritable =
+      parts_together (parts_of_events h hints h) ss
+      (each_mono (λ s. IsNormal h hints (literal s ∷ [])) (λ s. list_any (rewrites (literal s ∷ [])) (parts_of_events h hints h) ≡ false) (λ s n. n.none_rewritable) ss each);
   none_settled = either_false (list_any is_settled (atoms_of (literals ss))) (has_opposite (literals ss) (literals ss)) (none_in_atoms is_settled ss unsettled) (opposites [] ss apart);
 }

@@ -1,12 +1,10 @@
 -- What holds of clauses of variables and NOTs of variables.
-use Rattle.std.specs.Prelude.{◌≡◌, List, [], ◌∷◌}
+use Rattle.std.specs.Prelude.{List, [], ◌∷◌}
 use Rattle.nq_logic.specs.Histories.{History}
 use Rattle.nq_events.specs.Events.{Hints}
 use Rattle.nq_goals.specs.Normal.{IsNormal}
 use Rattle.nq_goals.specs.Dropping.{DropMove}
 use Rattle.nq_goals.specs.Paths.{Above, goals_above}
-use Rattle.nq_goals.specs.Spent.{IsSpent}
-use Rattle.nq_goals.specs.declared.kinds.Cause.TheVariants.{NoInduction}
 use Rattle.nq_decided.specs.Literals.{Signed, literals, AreApart}
 use Rattle.nq_decided.specs.Shaped.{IsShaped}
 

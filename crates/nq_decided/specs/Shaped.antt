@@ -1,5 +1,5 @@
 -- Histories whose rules have the shape of their class, as far as clauses of variables ask for it.
-use Rattle.std.specs.Prelude.{◌≡◌, Bool, true, false, ◌||◌, ◌&&◌, not, List, [], ◌∷◌, codes}
+use Rattle.std.specs.Prelude.{◌≡◌, Bool, true, false, ◌||◌, not, List, codes}
 use Rattle.std.specs.List.{list_any, list_all}
 use Rattle.nq_logic.specs.Terms.{Term, Variable, Function, Applied}
 use Rattle.nq_logic.specs.Histories.{History, Event, AddShell, Declaration, Defines, Axiom, Lemma, Toggle, RuleClass}

@@ -1,5 +1,5 @@
 -- Goals that are judged over a bank.
-use Rattle.std.proofs.Common.{◌≡◌, ◌∙◌, Bool, true, false, refl, Option, Some, None, List, [], ◌∷◌, map, ap, sym, subst, arith}
+use Rattle.std.proofs.Common.{◌≡◌, ◌∙◌, ◌≤◌, length, Bool, true, false, refl, Option, Some, None, List, [], ◌∷◌, map, ap, sym, subst, arith}
 use Rattle.std.specs.Prelude.{All, IsTrue, ◌↔◌, MatchOption, Vec}
 use Rattle.std.specs.declared.alloc.Global.{Global}
 use Rattle.nq_logic.specs.Terms.{Term, Each}
@@ -38,7 +38,7 @@ use Rattle.nq_goals.proofs.SolverLaws.{solver_laws}
 use Rattle.nq_comment.specs.Reports.{ShownStep as ToldStep}
 use Rattle.nq_answers.specs.Shown.{ShowsTree}
 use Rattle.nq_first_goal.specs.declared.judging.Judged.{Judged}
-use Rattle.nq_first_goal.specs.Judging.{IsCauseOf, IsJudged, cause_if, failing, unless}
+use Rattle.nq_first_goal.specs.Judging.{GoalFailsBy, IsCauseOf, IsJudged, cause_if, failing, is_left, steps_unless, unless}
 use Rattle.nq_uses.proofs.Overs.{IsOver, first_goal_over}
 
 -- ---- work on a bank
@@ -117,15 +117,30 @@ no_step h hints goal spent = record {
   shown_is = refl;
 }
 
--- the cause, by the two tests
-pub cause_told : (h : History) (hints : model.Hints) (goal : List Term) (falsity stuck : Bool) → IsTrue falsity ↔ IsFalse h goal → (stuck ≡ true → (IsFalse h goal → ⊥) → IsSpent h hints [] goal goals.NoInduction)
-    → MatchOption (cause_if falsity stuck) (IsFalse h goal → ⊥) (IsCauseOf h hints goal [])
-cause_told h hints goal true stuck tells spent = (tells.0 refl, refl)
-cause_told h hints goal false true tells spent = record { not_false = open_goal; tree = no_step h hints goal (spent refl open_goal) }
+-- the cause and the steps, by the two tests and by the steps that were found
+pub cause_told : (h : History) (hints : model.Hints) (goal : List Term) (falsity stuck : Bool) (found : List ToldStep) → IsTrue falsity ↔ IsFalse h goal
+    → (stuck ≡ true → (IsFalse h goal → ⊥) → IsSpent h hints [] goal goals.NoInduction) → GoalFailsBy h hints goal found
+    → MatchOption (cause_if falsity (is_left stuck found)) (IsFalse h goal → ⊥) (IsCauseOf h hints goal (steps_unless falsity stuck found))
+cause_told h hints goal true stuck found tells spent fails = (tells.0 refl, refl)
+cause_told h hints goal false stuck found tells spent fails = by_tests stuck found spent fails
   where
     open_goal : IsFalse h goal → ⊥
     open_goal f = let yes : false ≡ true = tells.1 f in absurd cc
-cause_told h hints goal false false tells spent = λ f. let yes : false ≡ true = tells.1 f in absurd cc
+
+    some_step : (step : ToldStep) (steps : List ToldStep) → step ∷ steps ≡ [] → ⊥
+    some_step step steps e = cc
+
+    by_tests : (stuck : Bool) (found : List ToldStep) → (stuck ≡ true → (IsFalse h goal → ⊥) → IsSpent h hints [] goal goals.NoInduction) → GoalFailsBy h hints goal found
+        → MatchOption (cause_if false (is_left stuck found)) (IsFalse h goal → ⊥) (IsCauseOf h hints goal (steps_unless false stuck found))
+    by_tests true [] spent fails = record { not_false = open_goal; tree = no_step h hints goal (spent refl open_goal) }
+    by_tests true (step ∷ steps) spent fails = record { not_false = open_goal; tree = no_step h hints goal (spent refl open_goal) }
+    by_tests false [] spent fails = open_goal
+    by_tests false (step ∷ steps) spent fails = record { not_false = open_goal; tree = fails (some_step step steps) }
+
+-- with a step a goal is left over
+pub some_left : (stuck : Bool) (found : List ShownStep) → 1 ≤ length found → true ≡ is_left stuck (steps_of found)
+some_left stuck [] some = absurd (omega (arith, some))
+some_left stuck (step ∷ steps) some = refl
 
 unless_told : (h : History) (hints : model.Hints) (goal : List Term) (steps : List ToldStep) (cause : Cause) (proved : Bool) → (IsFalse h goal → ⊥) → IsCauseOf h hints goal steps cause
     → MatchOption (unless proved cause) (IsFalse h goal → ⊥) (IsCauseOf h hints goal steps)

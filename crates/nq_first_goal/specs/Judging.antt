@@ -1,5 +1,5 @@
 -- What is told of a goal.
-use Rattle.std.specs.Prelude.{◌≡◌, Bool, true, false, List, [], Option, Some, None, MatchOption}
+use Rattle.std.specs.Prelude.{◌≡◌, Bool, true, false, List, [], ◌∷◌, Option, Some, None, MatchOption}
 use Rattle.nq_logic.specs.Terms.{Term}
 use Rattle.nq_logic.specs.Histories.{History}
 use Rattle.nq_comment.specs.declared.step.Cause.{Cause}
@@ -17,6 +17,21 @@ abbrev pub cause_if : Bool → Bool → Option Cause
 cause_if true stuck = Some False
 cause_if false true = Some NoInduction
 cause_if false false = None
+
+-- no step where the first goal is false or stuck itself
+abbrev pub steps_unless : Bool → Bool → List ShownStep → List ShownStep
+steps_unless true stuck steps = []
+steps_unless false true steps = []
+steps_unless false false steps = steps
+
+-- whether a goal is left over: the first one is stuck, or there are steps down to one
+abbrev pub is_left : Bool → List ShownStep → Bool
+is_left stuck [] = stuck
+is_left stuck (step ∷ steps) = true
+
+-- these are the steps of the tree of a failure from the goal, where there is one
+abbrev pub GoalFailsBy : History → Hints → List Term → List ShownStep → Type 0
+GoalFailsBy h hints goal steps = (steps ≡ [] → ⊥) → ShowsTree h hints goal steps NoInduction
 
 -- it is not false, and these are the steps of the tree of a failure from it
 pub record IsLeftOver (h : History) (hints : Hints) (goal : List Term) (steps : List ShownStep) (cause : Cause) : Type 0 where

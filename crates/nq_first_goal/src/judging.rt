@@ -7,12 +7,14 @@ ghost use Rattle.nq_history.specs.Hints.{HintsStand};
 ghost use Rattle.nq_kernel.specs.Hints.{HintsAreIn};
 ghost use Rattle.nq_kernel.specs.Over.{TermIsIn};
 ghost use Rattle.nq_kernel.specs.Ready.{IsReady};
+ghost use Rattle.nq_comment.specs.ReportViews.{steps_of};
 ghost use Rattle.nq_event.specs.EventsAt.{hints_at};
 ghost use Rattle.nq_goals.specs.Hints.{first_goal};
 ghost use Rattle.nq_ground_goals.specs.Literals.{IsLiteral};
 ghost use Rattle.nq_answers.specs.Goals.{goal_text};
-ghost use Rattle.nq_first_goal.specs.Judging.{IsJudged, cause_if, failing, failing_by, unless};
+ghost use Rattle.nq_first_goal.specs.Judging.{GoalFailsBy, IsJudged, cause_if, failing, failing_by, is_left, steps_unless, unless};
 
+use crate::falsehoods::falsehood_steps;
 use crate::texts::goal_text;
 use nq_bank::{Bank, Mark, TermId};
 use nq_comment::{Cause, ShownStep};
@@ -102,6 +104,48 @@ pub fn failing(cause: Option<Cause>, proved: bool) -> Option<Cause>
     }
 }
 
+/// The steps down to the goal that is left over: none where the first goal is false or stuck itself.
+fn steps_unless(alloc: Global, falsity: bool, stuck: bool, steps: Vec<ShownStep>) -> Vec<ShownStep>
+    ensures { steps_of result.items ≡ steps_unless falsity stuck (steps_of steps.items) }
+{
+    if falsity {
+        Vec::new(alloc)
+    } else if stuck {
+        Vec::new(alloc)
+    } else {
+        steps
+    }
+}
+
+/// Is a goal left over: is the first one stuck, or are there steps down to one?
+fn is_left(stuck: bool, found: &[ShownStep]) -> bool
+    ensures { result ≡ is_left stuck (steps_of found.now) }
+{
+    match found {
+        [] => stuck,
+        [_, ..] => true,
+    }
+}
+
+/// The steps of the tree of a failure from a goal, where it is one literal that is a proposition over variables.
+fn falsehood_of(
+    bank: &mut Bank,
+    history: &History,
+    hints: &Hints,
+    goal: &[TermId],
+) -> Result<Vec<ShownStep>, AllocError>
+    requires history { HistoryStands bank.old history.now }
+    requires hints { HintsStand bank.old hints.now }
+    requires literals { All (IsLiteral bank.old history.now) goal.now }
+    ensures told { IfOk result (λ v. GoalFailsBy (events_at bank.old history.now) (hints_at bank.old hints.now) (terms_at bank.old goal.now) (steps_of v.items)) }
+    ensures bank { IfOk result (λ _. bank.new ≡ bank.old) }
+{
+    match goal {
+        [lemma] => falsehood_steps(bank, history, hints, *lemma),
+        _ => Ok(Vec::new(bank.alloc())),
+    }
+}
+
 /// What is told of a goal over this bank.
 fn told(
     alloc: Global,
@@ -118,12 +162,15 @@ fn told(
     ensures grows { IfOk result (λ judged. Grows bank judged.bank) }
     ensures told { IfOk result (IsJudged (events_at bank history.now) (hints_at bank hints.now) (terms_at bank goal.now)) }
 {
+    let mut bank = bank;
     let text = goal_text(&bank, goal)?;
     let stuck = is_stuck(&bank, history, hints, goal)?;
+    let found = falsehood_of(&mut bank, history, hints, goal)?;
     let mut work = Work::new(bank, Log::new(alloc), 0);
     let falsity = is_false(&mut work, history, goal)?;
-    let cause = cause_if(falsity, stuck);
-    let steps = Vec::new(alloc);
+    let left = is_left(stuck, found.as_slice());
+    let cause = cause_if(falsity, left);
+    let steps = steps_unless(alloc, falsity, stuck, found);
     Ok(Judged {
         bank: work.bank,
         text,

@@ -4,6 +4,10 @@
 // the text of a goal
 mod texts;
 
+// the steps of propositions that are false under some assignment
+mod dropping;
+mod falsehoods;
+
 // what is told of the first goal, and of the trace from it
 mod judging;
 mod tracing;

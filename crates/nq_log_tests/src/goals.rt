@@ -106,6 +106,10 @@ fn function_of(byte: u8) -> Option<Sym>
         b'>' => Some(ground::IMPLIES),
         b'=' => Some(ground::IFF),
         b'?' => Some(ground::IF),
+        b'-' => Some(ground::SUB1),
+        b'.' => Some(ground::CONS),
+        b'*' => Some(ground::PLUS),
+        b'S' => Some(ground::ASSOC),
         _ => None,
     }
 }
@@ -113,8 +117,8 @@ fn function_of(byte: u8) -> Option<Sym>
 /// How many arguments the function has that a byte stands for.
 fn count_of(byte: u8) -> usize {
     match byte {
-        b'!' | b'$' | b'+' => 1,
-        b'&' | b'|' | b'>' | b'=' | b'~' => 2,
+        b'!' | b'$' | b'+' | b'-' => 1,
+        b'&' | b'|' | b'>' | b'=' | b'~' | b'.' | b'*' | b'S' => 2,
         b'?' => 3,
         _ => 0,
     }

@@ -178,3 +178,70 @@ fn the_deepest_goals_are_proved(rt: HostRuntime) -> Result<(), Fail> {
     assert!(rt; found.is_some());
     Ok(())
 }
+
+/// The way in which the first pass proves the goal of a text, in the ground history with an axiom about CAR; none where it doesn't
+/// prove it.
+fn way_of(rt: &impl Abort, alloc: Global, text: &[u8]) -> Result<Option<Quick>, Fail> {
+    let mut bank = Bank::new(alloc)?;
+    let name = bank.name(b"FIRST")?;
+    let axiom = term(rt, &mut bank, b"$X")?;
+    let goal = term(rt, &mut bank, text)?;
+    let made = bank.len();
+    let history = history_with(rt, &mut bank, name, axiom)?;
+    let found = proof_in(rt, bank, &history, made, goal)?;
+    Ok(found.map(|f| f.0))
+}
+
+// Each level adds the one below to itself, and stands once in the bank: 60 levels over 1 have the value 2^60. With 128 levels
+// the last sum would reach 2^128, and there is no value.
+#[test]
+fn a_shared_tower_is_evaluated(rt: HostRuntime) -> Result<(), Fail> {
+    for (levels, value, way) in [
+        (60, 1 << 60, Some(Quick::Eval)),
+        (60, 1 << 59, None),
+        (127, 1 << 127, Some(Quick::Eval)),
+        (128, 0, None),
+    ] {
+        let mut bank = Bank::new(rt.alloc())?;
+        let name = bank.name(b"FIRST")?;
+        let axiom = term(&rt, &mut bank, b"$X")?;
+        let mut tower = bank.num(1)?;
+        for _ in 0..levels {
+            tower = made_of(&rt, &mut bank, b'*', &[tower, tower])?;
+        }
+        let number = bank.num(value)?;
+        let goal = made_of(&rt, &mut bank, b'~', &[tower, number])?;
+        let made = bank.len();
+        let history = history_with(&rt, &mut bank, name, axiom)?;
+        let found = proof_in(&rt, bank, &history, made, goal)?;
+        assert!(rt; found.map(|f| f.0) == way, "{levels}");
+    }
+    Ok(())
+}
+
+// ASSOC is opened once for each pair of a list, and once at its end: 399 pairs take 400 openings, one within another, and 400
+// pairs one too many.
+#[test]
+fn openings_nest_to_four_hundred(rt: HostRuntime) -> Result<(), Fail> {
+    for (pairs, way) in [(399, Some(Quick::Eval)), (400, None)] {
+        let mut text = b"!S2".to_vec(rt.alloc())?;
+        for _ in 0..pairs {
+            text.extend_from_slice(b".3")?;
+        }
+        text.push(b'5')?;
+        let found = way_of(&rt, rt.alloc(), text.as_slice())?;
+        assert!(rt; found == way, "{pairs}");
+    }
+    Ok(())
+}
+
+// 2,000 levels of SUB1 over a numeral.
+#[test]
+fn deep_terms_are_evaluated(rt: HostRuntime) -> Result<(), Fail> {
+    let mut text = b"~".to_vec(rt.alloc())?;
+    let deep = repeated(rt.alloc(), b'-', 2000, b"5-1")?;
+    text.extend_from_slice(deep.as_slice())?;
+    let found = way_of(&rt, rt.alloc(), text.as_slice())?;
+    assert!(rt; found == Some(Quick::Eval));
+    Ok(())
+}

@@ -66,4 +66,6 @@ mod first_pass_prover;
 pub use first_pass::quick;
 pub use first_pass_prover::FirstPass;
 pub use heads::Head;
-pub use tautology::{is_small_tautology, small_tautology};
+pub use others::others_of;
+pub use tautology::{has_few_nodes, is_small_tautology, small_tautology};
+pub use truth::is_true;

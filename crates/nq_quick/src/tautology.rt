@@ -63,7 +63,7 @@ fn is_always_true(bank: &Bank, t: TermId, others: &[TermId]) -> Result<bool, All
 }
 
 /// Has a proposition no more nodes than a small tautology may have?
-fn has_few_nodes(bank: &Bank, t: TermId) -> bool
+pub fn has_few_nodes(bank: &Bank, t: TermId) -> bool
     requires { Stands bank.now t }
     ensures { IsTrue result ↔ (nodes_in (proposition_of (term_at bank.now t)) ≤ node_limit) }
 {

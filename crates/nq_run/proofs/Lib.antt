@@ -21,3 +21,4 @@ pub mod EndingLemmas
 pub mod RunHistories
 pub mod SearchedLemmas
 pub mod ShapeLemmas
+pub mod GivenUpLemmas

@@ -80,15 +80,15 @@ no_logs false a b t logs off = logs
 
 -- ---- the claims
 
-pub claims_more : (old : History) (done : Forms) (reports : List Report) (mid : History) (form : Form) (report : Report) → Runs old done reports mid
+pub claims_more : (limit : ℕ) (old : History) (done : Forms) (reports : List Report) (mid : History) (form : Form) (report : Report) → Runs limit old done reports mid
     → claims_from old (push done form) (reports ++ report ∷ []) ≡ claims_from old done reports ++ claims_at mid form report.answer
-claims_more old end [] mid form report runs = append-nil (claims_at old form report.answer) ∙ ap (λ (h : History). claims_at h form report.answer) (sym runs)
-claims_more old end (r ∷ rs) mid form report runs = absurd runs
-claims_more old (dotted f) [] mid form report runs = absurd runs
-claims_more old (dotted f) (r ∷ rs) mid form report runs = absurd runs
-claims_more old (next f fs) [] mid form report runs = absurd runs
-claims_more old (next f fs) (r ∷ rs) mid form report runs =
-    ap (λ (claims : List Claim). claims_at old f r.answer ++ claims) (claims_more (after old f r.answer) fs rs mid form report runs.1)
+claims_more limit old end [] mid form report runs = append-nil (claims_at old form report.answer) ∙ ap (λ (h : History). claims_at h form report.answer) (sym runs)
+claims_more limit old end (r ∷ rs) mid form report runs = absurd runs
+claims_more limit old (dotted f) [] mid form report runs = absurd runs
+claims_more limit old (dotted f) (r ∷ rs) mid form report runs = absurd runs
+claims_more limit old (next f fs) [] mid form report runs = absurd runs
+claims_more limit old (next f fs) (r ∷ rs) mid form report runs =
+    ap (λ (claims : List Claim). claims_at old f r.answer ++ claims) (claims_more limit (after old f r.answer) fs rs mid form report runs.1)
     ∙ sym (append_assoc (claims_at old f r.answer) (claims_from (after old f r.answer) fs rs) (claims_at mid form report.answer))
 
 open_as : (t u : List ℕ) (c d : List Claim) (h k : History) → t ≡ u → c ≡ d → h ≡ k → IsOpenLog t c h → IsOpenLog u d k
@@ -135,10 +135,10 @@ module _ (log : List ℕ) (claims : List Claim) (old : History) (block : List �
       subst (λ (h : History). IsOpenLog (log ++ block) (claims ++ claims_of e answer) (without_classes h)) (sym same) (open_by e (measure_by e answer) (is_taken answer) is)
 
 -- the log with the block of one form more
-pub log_more : (done : Forms) (reports : List Report) (old new : History) (form : Form) (report : Report) (log block : List ℕ) → Runs [] done reports old
-    → IsLogOf done reports old log → Answered form old new report true block → IsLogOf (push done form) (reports ++ report ∷ []) new (log ++ block)
-log_more done reports old new form report log block runs before answered =
-    subst (λ (claims : List Claim). IsOpenLog (log ++ block) claims (without_classes new)) (sym (claims_more [] done reports old form report runs))
+pub log_more : (limit : ℕ) (done : Forms) (reports : List Report) (old new : History) (form : Form) (report : Report) (log block : List ℕ) → Runs limit [] done reports old
+    → IsLogOf done reports old log → Answered limit form old new report true block → IsLogOf (push done form) (reports ++ report ∷ []) new (log ++ block)
+log_more limit done reports old new form report log block runs before answered =
+    subst (λ (claims : List Claim). IsOpenLog (log ++ block) claims (without_classes new)) (sym (claims_more limit [] done reports old form report runs))
     (open_event log (claims_from [] done reports) old block before new (event_of old form) report.answer (answered.written refl) answered.step.history)
 
 -- ---- what would follow on a log that is full

@@ -148,24 +148,24 @@ module _ (old : Session) (grown : Content) (name : Sym) (formals : List Sym) (bo
     not_structural told is = back (λ (k : History) (n : Name) (ys : List Name) (u : Term). Each (λ x. IsAmong (size_measure x) (terms_at grown tried)) ys → IsStructural [] (plain_definition n ys u) → ⊥) is
         (subst (λ (ts : List Term). Each (λ x. IsAmong (size_measure x) ts) xs) (sym told) (sizes_tried ms xs))
 
-    pub left : (form : Form) (logging : Bool) (trials : List Trial) (r : Taken) → terms_at grown tried ≡ tried_measures xs ms → NoneIsStructural old.history grown name formals body tried
+    pub left : (limit : ℕ) (form : Form) (logging : Bool) (trials : List Trial) (r : Taken) → terms_at grown tried ≡ tried_measures xs ms → NoneIsStructural old.history grown name formals body tried
         → AreTrials (events_at grown old.history) (plain_definition (text_at grown name) (texts_at grown formals) (term_at grown body)) (terms_at grown tried) trials
-        → IsUntaken (record { bank = bank; history = old.history }) (Unmeasured trials) r → TakesEvent h form (model.Defn f xs t ms) logging r
-    left form logging trials r told is all kept =
+        → IsUntaken (record { bank = bank; history = old.history }) (Unmeasured trials) r → TakesEvent limit h form (model.Defn f xs t ms) logging r
+    left limit form logging trials r told is all kept =
         let answer : Answer = Unmeasured trials in
         let own : IsUntaken old answer r = record { entries = kept.entries; same = kept.same ∙ session_same; stands = kept.stands; answer_is = kept.answer_is; block_is = kept.block_is } in
         let here : AreTrials h (plain_definition f xs t) (tried_measures xs ms) trials = subst (λ (ts : List Term). AreTrials h (plain_definition f xs t) ts trials) told
         (back (λ (k : History) (n : Name) (ys : List Name) (u : Term). AreTrials k (plain_definition n ys u) (terms_at grown tried) trials) all) in
-        untaken_as old form (model.Defn f xs t ms) logging answer r own refl
-        (subst (λ (o : Option Answer). AnswersUnless o h form (model.Defn f xs t ms) answer) (sym none)
+        untaken_as limit old form (model.Defn f xs t ms) logging answer r own refl
+        (subst (λ (o : Option Answer). AnswersUnless limit o h form (model.Defn f xs t ms) answer) (sym none)
         (subst (λ (b : Bool). IsDefined b h f xs t ms answer) (sym again) (inr (record { plain = not_structural told is; trials = trials; told = here; answer_is = refl }))))
 
     -- a measure is kept
-    pub taken : (form : Form) (logging : Bool) (kept : Kept) (block : List ℕ) (r : Taken) → terms_at grown tried ≡ tried_measures xs ms → IsKept grown old.history name formals body tried kept
+    pub taken : (limit : ℕ) (form : Form) (logging : Bool) (kept : Kept) (block : List ℕ) (r : Taken) → terms_at grown tried ≡ tried_measures xs ms → IsKept grown old.history name formals body tried kept
         → (logging ≡ true → AreBlocks (events_at grown old.history) (kept_claims grown name formals body (Some kept)) block)
         → history_of r.session ≡ events_at bank old.history ++ Defines (measured_definition (text_at bank name) (texts_at bank formals) (term_at bank body) (term_at bank kept.measure)) ∷ []
-        → SessionStands r.session → answer_of r.answer ≡ AcceptedBy kept.place (printed (term_at bank kept.measure)) → r.block ≡ block → TakesEvent h form (model.Defn f xs t ms) logging r
-    taken form logging kept block r told is written after held answered block_is =
+        → SessionStands r.session → answer_of r.answer ≡ AcceptedBy kept.place (printed (term_at bank kept.measure)) → r.block ≡ block → TakesEvent limit h form (model.Defn f xs t ms) logging r
+    taken limit form logging kept block r told is written after held answered block_is =
         let m : Term = term_at grown kept.measure in
         let event : model.Event = model.Defn f xs t ms in
         let says : answer_of r.answer ≡ AcceptedBy kept.place (printed m) = answered ∙ ap (λ (b : Content). AcceptedBy kept.place (printed (term_at b kept.measure))) same in
@@ -174,8 +174,8 @@ module _ (old : Session) (grown : Content) (name : Sym) (formals : List Sym) (bo
         after ∙ ap (λ (b : Content). events_at b old.history ++ Defines (measured_definition (text_at b name) (texts_at b formals) (term_at b body) (term_at b kept.measure)) ∷ []) same
         ∙ back (λ (k : History) (n : Name) (ys : List Name) (u : Term). events_at grown old.history ++ Defines (measured_definition (text_at grown name) (texts_at grown formals) (term_at grown body) m) ∷ [] ≡ k ++ Defines (measured_definition n ys u m) ∷ []) refl in
         record {
-          answered = subst (AnswersUnless (untaken h event) h form event) (sym says)
-              (subst (λ (o : Option Answer). AnswersUnless o h form event (AcceptedBy kept.place (printed m))) (sym none)
+          answered = subst (AnswersUnless limit (untaken h event) h form event) (sym says)
+              (subst (λ (o : Option Answer). AnswersUnless limit o h form event (AcceptedBy kept.place (printed m))) (sym none)
               (subst (λ (b : Bool). IsDefined b h f xs t ms (AcceptedBy kept.place (printed m))) (sym again)
               (inl (record { place = kept.place; measure = m; tried = place; admissible = admissible_here kept is; answer_is = refl }))));
           after_is = later ∙ ap (λ (o : Option Term). h ++ defined f xs t o ∷ []) (sym place) ∙ sym (ap (after_event h event) says);
@@ -188,13 +188,13 @@ module _ (old : Session) (grown : Content) (name : Sym) (formals : List Sym) (bo
         }
 
     -- the same of what is answered to it
-    pub taken_on : (form : Form) (logging : Bool) (kept : Kept) (block : List ℕ) (o : Result Taken AllocError) → terms_at grown tried ≡ tried_measures xs ms → IsKept grown old.history name formals body tried kept
+    pub taken_on : (limit : ℕ) (form : Form) (logging : Bool) (kept : Kept) (block : List ℕ) (o : Result Taken AllocError) → terms_at grown tried ≡ tried_measures xs ms → IsKept grown old.history name formals body tried kept
         → (logging ≡ true → AreBlocks (events_at grown old.history) (kept_claims grown name formals body (Some kept)) block)
         → IfOk o (λ r. history_of r.session ≡ events_at bank old.history ++ Defines (measured_definition (text_at bank name) (texts_at bank formals) (term_at bank body) (term_at bank kept.measure)) ∷ [])
         → IfOk o (λ r. SessionStands r.session) → IfOk o (λ r. answer_of r.answer ≡ AcceptedBy kept.place (printed (term_at bank kept.measure))) → IfOk o (λ r. r.block ≡ block)
-        → IfOk o (TakesEvent h form (model.Defn f xs t ms) logging)
-    taken_on form logging kept block (Err why) told is written after held answered block_is = tt
-    taken_on form logging kept block (Ok r) told is written after held answered block_is = taken form logging kept block r told is written after held answered block_is
+        → IfOk o (TakesEvent limit h form (model.Defn f xs t ms) logging)
+    taken_on limit form logging kept block (Err why) told is written after held answered block_is = tt
+    taken_on limit form logging kept block (Ok r) told is written after held answered block_is = taken limit form logging kept block r told is written after held answered block_is
 
 -- what is kept of a measure that was found
 pub kept_some : (bank : Content) (history : List Entry) (name : Sym) (formals : List Sym) (body : TermId) (tried : List TermId) (o : Option Kept) (kept : Kept) → o ≡ Some kept

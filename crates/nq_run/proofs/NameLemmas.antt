@@ -47,16 +47,16 @@ none_told o why told none = sym told ∙ ap (option_map answer_of) none
 -- ---- events that are accepted
 
 -- nothing keeps the event from being taken, and its entry stands at the end
-module _ (old : Session) (form : Form) (event : model.Event) (logging : Bool) (entry : Entry) (claim : Claim) (block : List ℕ) (none : untaken (history_of old) event ≡ None)
-    (outcome : IsOutcome (history_of old) form event Accepted) (later : history_after (history_of old) event None ≡ history_of old ++ event_at old.bank entry ∷ [])
+module _ (limit : ℕ) (old : Session) (form : Form) (event : model.Event) (logging : Bool) (entry : Entry) (claim : Claim) (block : List ℕ) (none : untaken (history_of old) event ≡ None)
+    (outcome : IsOutcome limit (history_of old) form event Accepted) (later : history_after (history_of old) event None ≡ history_of old ++ event_at old.bank entry ∷ [])
     (claims : event_claims event None ≡ claim ∷ []) (text : logging ≡ true → IsBlock (history_of old) claim block) where
   blocks : (text_of : List ℕ) → text_of ≡ block → logging ≡ true → AreBlocks (history_of old) (event_claims event None) text_of
   blocks text_of written on =
       subst (λ (cs : List Claim). AreBlocks (history_of old) cs text_of) (sym claims) (subst (IsBlock (history_of old) claim) (sym written) (text on))
 
   pub accepted : {E : Type 0} (r : Result Taken E) → IfOk r (λ t. IsAdded old entry t.session) → IfOk r (λ t. t.answer ≡ answers.Accepted) → IfOk r (λ t. t.block ≡ block)
-      → IfOk r (TakesEvent (history_of old) form event logging)
-  accepted (Ok t) added told written = accepted_as old form event entry logging t added told none outcome later (blocks t.block written)
+      → IfOk r (TakesEvent limit (history_of old) form event logging)
+  accepted (Ok t) added told written = accepted_as limit old form event entry logging t added told none outcome later (blocks t.block written)
   accepted (Err e) added told written = tt
 
 -- the name of an event that may be added is free

@@ -1,5 +1,5 @@
 -- The try of a lemma, over a bank that its proof grows.
-use Rattle.std.proofs.Common.{◌≡◌, ℕ, zero, suc, true, List, [], ◌∷◌, ap, sym, subst, ◌∙◌, arith}
+use Rattle.std.proofs.Common.{◌≡◌, ℕ, zero, suc, true, List, [], ◌∷◌, ap, refl, sym, subst, ◌∙◌, arith}
 use Rattle.std.specs.Prelude.{All, Some}
 use Rattle.nq_logic.specs.Terms.{Name, Term, IsTerm}
 use Rattle.nq_logic.specs.Formulas.{holds}
@@ -23,7 +23,7 @@ use Rattle.nq_kernel.specs.declared.verdict.Proof.TheVariants.{First, Waterfall}
 use Rattle.nq_kernel.specs.declared.verdict.Verdict.{Verdict}
 use Rattle.nq_kernel.specs.declared.verdict.Verdict.TheVariants.{Proved, Failed, OutOfSteps, NotYet}
 use Rattle.nq_kernel.specs.declared.work.Work.{Work}
-use Rattle.nq_kernel.specs.Growing.{PrescriptionStands, WorkStands}
+use Rattle.nq_kernel.specs.Growing.{PrescriptionStands, WorkGrows, WorkStands}
 use Rattle.nq_kernel.specs.Meaning.{IsOver, clause_at}
 use Rattle.nq_kernel.specs.Over.{TermIsIn}
 use Rattle.nq_kernel.specs.Proving.{IsFirstPass, IsTold}
@@ -32,6 +32,7 @@ use Rattle.nq_block.specs.declared.closing.Closing.TheVariants as closing
 use Rattle.nq_block.specs.Closings.{CanClose, IsFree}
 use Rattle.nq_block.specs.Names.{HasSymbols}
 use Rattle.nq_spelling.specs.SpelledEvents.{IsSpelledFormula}
+use Rattle.nq_answers.specs.Spending.{IsUsedUp}
 use Rattle.nq_run.specs.Outcome.{AreBlocks}
 use Rattle.nq_run.specs.Sessions.{IsFoundBy, IsShownBy, found_claims, found_of, line_in}
 use Rattle.nq_run.specs.declared.proving.Found.{Found}
@@ -64,12 +65,30 @@ goal_in bank later history name goal same spelled = subst (λ (b : Content). Ter
 
 -- ---- what a verdict shows
 
-pub shown_is : (work : Work) (h : History) (t : Term) (verdict : Verdict) → IsTold work t verdict → IsFirstPass h t verdict → IsShownBy work h t (found_of verdict)
-shown_is work h t (Proved line (First way)) told first = (told, first)
-shown_is work h t (Proved line (Waterfall path)) told first = (told, first)
-shown_is work h t (Failed path cause) told first = first
-shown_is work h t OutOfSteps told first = first
-shown_is work h t (NotYet path) told first = first
+-- where the counter is at its limit, all steps are used up
+abbrev pub SpendsAll : Work → History → Type 0
+SpendsAll work h = work.counter.used ≡ work.counter.limit → IsUsedUp work.counter.limit h
+
+-- the work that began with no step used and no line
+pub spends_all : (history : List Entry) (begun spent : Work) → begun.log ≡ [] → begun.counter.used ≡ 0 → WorkGrows history begun spent → SpendsAll spent (events_at begun.bank history)
+spends_all history begun spent none unused grows all = record {
+  entries = history;
+  begun = begun;
+  spent = spent;
+  history_is = refl;
+  no_lines = none;
+  unused = unused;
+  limit_is = sym grows.counter.limit;
+  grows = grows;
+  all_used = all;
+}
+
+pub shown_is : (work : Work) (h : History) (t : Term) (verdict : Verdict) → SpendsAll work h → IsTold work t verdict → IsFirstPass h t verdict → IsShownBy work h t (found_of verdict)
+shown_is work h t (Proved line (First way)) spends told first = (told, first)
+shown_is work h t (Proved line (Waterfall path)) spends told first = (told, first)
+shown_is work h t (Failed path cause) spends told first = first
+shown_is work h t OutOfSteps spends told first = (first, spends told)
+shown_is work h t (NotYet path) spends told first = first
 
 -- what a line shows is derivable
 shown_derivable : (work : Work) (history : List Entry) (t : Term) (line : ℕ) → WorkHolds history work → IsTerm (symbols_of (events_at work.bank history)) t
@@ -77,7 +96,7 @@ shown_derivable : (work : Work) (history : List Entry) (t : Term) (line : ℕ) �
 shown_derivable work history t line lines over only = only_holds (events_at work.bank history) (clause_at work.bank work.log line) (t ∷ []) (lines line) (over, tt) only
 
 pub found_is : (work : Work) (history : List Entry) (t : Term) (found : Found) → WorkHolds history work → IsTerm (symbols_of (events_at work.bank history)) t
-    → IsShownBy work (events_at work.bank history) t found → IsFoundBy (events_at work.bank history) t found
+    → IsShownBy work (events_at work.bank history) t found → IsFoundBy work.counter.limit (events_at work.bank history) t found
 found_is work history t (Fragment line way) lines over shown = (shown.1, shown_derivable work history t line lines over shown.0)
 found_is work history t (Moves line) lines over shown = (shown.1, shown_derivable work history t line lines over shown.0)
 found_is work history t finding.OutOfSteps lines over shown = shown
@@ -129,18 +148,18 @@ module _ (bank begun later : Content) (history : List Entry) (name : Sym) (goal 
   free_kept free = subst (λ (h : History). IsFree h (text_at later name)) (sym events_kept) (subst (IsFree (events_at bank history)) (sym name_kept) free)
 
   -- what the verdict says of the bank as it was when the work began
-  pub shown_kept : (work : Work) (verdict : Verdict) (result : Found) → result ≡ found_of verdict → IsTold work (term_at begun goal) verdict
+  pub shown_kept : (work : Work) (verdict : Verdict) (result : Found) → result ≡ found_of verdict → SpendsAll work (events_at begun history) → IsTold work (term_at begun goal) verdict
       → IsFirstPass (events_at begun history) (term_at begun goal) verdict → IsShownBy work (events_at later history) (term_at later goal) result
-  shown_kept work verdict result is told first =
-      let own : IsShownBy work (events_at begun history) (term_at begun goal) (found_of verdict) = shown_is work (events_at begun history) (term_at begun goal) verdict told first in
+  shown_kept work verdict result is spends told first =
+      let own : IsShownBy work (events_at begun history) (term_at begun goal) (found_of verdict) = shown_is work (events_at begun history) (term_at begun goal) verdict spends told first in
       let events : events_at begun history ≡ events_at later history = ap (λ (b : Content). events_at b history) same ∙ sym events_kept in
       subst (IsShownBy work (events_at later history) (term_at later goal)) (sym is)
       (subst (λ (h : History). IsShownBy work h (term_at later goal) (found_of verdict)) events
       (subst (λ (t : Term). IsShownBy work (events_at begun history) t (found_of verdict)) (sym goal_begun) own))
 
-  pub found_before : (result : Found) → IsFoundBy (events_at later history) (term_at later goal) result → IsFoundBy (events_at bank history) (term_at bank goal) result
-  found_before result is =
-      subst (λ (h : History). IsFoundBy h (term_at bank goal) result) events_kept (subst (λ (t : Term). IsFoundBy (events_at later history) t result) goal_kept is)
+  pub found_before : (limit : ℕ) (result : Found) → IsFoundBy limit (events_at later history) (term_at later goal) result → IsFoundBy limit (events_at bank history) (term_at bank goal) result
+  found_before limit result is =
+      subst (λ (h : History). IsFoundBy limit h (term_at bank goal) result) events_kept (subst (λ (t : Term). IsFoundBy limit (events_at later history) t result) goal_kept is)
 
   pub written_before : (result : Found) (block : List ℕ) → AreBlocks (events_at later history) (found_claims (text_at later name) (term_at later goal) result) block
       → AreBlocks (events_at bank history) (found_claims (text_at bank name) (term_at bank goal) result) block

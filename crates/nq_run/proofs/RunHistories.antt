@@ -1,5 +1,5 @@
 -- The histories that runs make are ready, and the texts of terms over their functions are read back.
-use Rattle.std.proofs.Common.{◌≡◌, ◌≤◌, ◌^◌, Bool, true, false, List, [], ◌∷◌, ◌++◌, length, refl, ap, sym, subst, ◌∙◌, inl, inr, arith}
+use Rattle.std.proofs.Common.{◌≡◌, ℕ, ◌≤◌, ◌^◌, Bool, true, false, List, [], ◌∷◌, ◌++◌, length, refl, ap, sym, subst, ◌∙◌, inl, inr, arith}
 use Rattle.std.specs.Prelude.{◌⊎◌, Option, None, Some, if◌then◌else◌}
 use Rattle.nq_logic.specs.Terms.{Name, Term}
 use Rattle.nq_logic.specs.Formulas.{holds}
@@ -29,6 +29,7 @@ use Rattle.nq_spelling.proofs.EventSpelling.{events_are_spelled}
 use Rattle.nq_spelling.proofs.NameCounts.{few_names_begin, few_names_grow, few_names_stay, shells_bring_few_names}
 use Rattle.nq_spelling.proofs.ReadBack.{forms_grow_histories, printed_is_read_back}
 use Rattle.nq_answers.specs.Goals.{goal_text}
+use Rattle.nq_answers.specs.Spending.{IsUsedUp}
 use Rattle.nq_answers.specs.Steps.{Answers, AnswersUnless, IsDefined, IsOutcome, IsRecursionTried, IsProvedByMoves, IsTried, by_tautology, by_evaluation, by_instance, by_falsity, by_want, by_search, Runs, after, after_event, first_answer, is_taken, measure_by, not_yet, refusal_of, refused, undone, untaken}
 use Rattle.nq_answers.proofs.Instances.{instance_derivable}
 use Rattle.nq_answers.proofs.SmallTautologies.{tautology_derivable}
@@ -60,7 +61,7 @@ first_none (Some refusal) later e = absurd cc
 kept : (h : History) (e : Event) (answer : Answer) → is_taken answer ≡ false → IsMade h → IsMade (after_event h e answer)
 kept h e answer nothing made = subst (λ (b : Bool). IsMade (if b then history_after h e (measure_by e answer) else h)) (sym nothing) made
 
-module _ (h : History) (form : Form) (made : IsMade h) where
+module _ (limit : ℕ) (h : History) (form : Form) (made : IsMade h) where
   -- an event more
   gains : (e : logic.Event) (name : Name) → IsFree h name → IsReadyEvent h e → length (event_names e) ≤ 24 → IsGrown (h ++ e ∷ []) → IsMade (h ++ e ∷ [])
   gains e name free ready few grown = record { ready = ready_more h e made.ready ready; few = few_names_grow h e made.few (free_room h name free) few; grown = grown }
@@ -70,7 +71,7 @@ module _ (h : History) (form : Form) (made : IsMade h) where
 
   -- a lemma that is tried
   lemma_made : (name : Name) (classes : List RuleClass) (t : Term) (hints : Hints) (answer : Answer) → IsFree h name → IsSpelledFormula h name t
-      → IsGrown (h ++ logic.Lemma name classes t ∷ []) → IsTried h form hints t answer → IsMade (after_event h (ProveLemma name classes t hints) answer)
+      → IsGrown (h ++ logic.Lemma name classes t ∷ []) → IsTried limit h form hints t answer → IsMade (after_event h (ProveLemma name classes t hints) answer)
   lemma_made name classes t hints answer free spelled grown tried = by_way tried
     where
       e : Event
@@ -79,12 +80,12 @@ module _ (h : History) (form : Form) (made : IsMade h) where
       shown : Derivable h (holds t) → IsMade (h ++ logic.Lemma name classes t ∷ [])
       shown derivable = gains (logic.Lemma name classes t) name free (lemma_ready h name free classes t spelled derivable) (omega arith) grown
 
-      found : IsProvedByMoves h hints t answer ⊎ ((answer ≡ OutOfSteps) ⊎ (answer ≡ not_yet form)) → IsMade (after_event h e answer)
+      found : IsProvedByMoves h hints t answer ⊎ (((answer ≡ OutOfSteps) × IsUsedUp limit h) ⊎ (answer ≡ not_yet form)) → IsMade (after_event h e answer)
       found (inl moved) = answered e answer (ProvedFrom (goal_text (first_goal h hints t)) moved.steps) moved.answer_is (shown moved.shown)
-      found (inr (inl so)) = answered e answer OutOfSteps so made
+      found (inr (inl spent)) = answered e answer OutOfSteps spent.0 made
       found (inr (inr so)) = answered e answer (not_yet form) so made
 
-      by_way : IsTried h form hints t answer → IsMade (after_event h e answer)
+      by_way : IsTried limit h form hints t answer → IsMade (after_event h e answer)
       by_way (by_tautology small so) = answered e answer (Proved Taut) so (shown (tautology_derivable h t spelled.claimable.over.over small))
       by_way (by_evaluation valued) = answered e answer (Proved Eval) valued.answer_is (shown valued.shown)
       by_way (by_instance first so) = answered e answer (Proved Inst) so (shown (instance_derivable h t (ready_sound h made.ready) spelled.claimable.over.over first.instance))
@@ -121,7 +122,7 @@ module _ (h : History) (form : Form) (made : IsMade h) where
       by_test true again so = recursion so
 
   -- an event without a refusal
-  outcome_made : (e : Event) (answer : Answer) → (own_refusal h e ≡ None → (m : Option Term) → IsGrown (history_after h e m)) → IsSpelledEvent h e → untaken h e ≡ None → IsOutcome h form e answer
+  outcome_made : (e : Event) (answer : Answer) → (own_refusal h e ≡ None → (m : Option Term) → IsGrown (history_after h e m)) → IsSpelledEvent h e → untaken h e ≡ None → IsOutcome limit h form e answer
       → IsMade (after_event h e answer)
   outcome_made BootStrap answer grow spelled none so = answered BootStrap answer Accepted so nothing_made
   outcome_made (AddShell shell) answer grow spelled none so =
@@ -152,26 +153,26 @@ module _ (h : History) (form : Form) (made : IsMade h) where
       answered (Undo name) answer (Undone (undone h name)) so (record { ready = ready_before h name made.ready; few = few_names_stay h name made.few; grown = grow own None })
   outcome_made PassedOver answer grow spelled none so = answered PassedOver answer Skipped so made
 
-  answer_made : (answer : Answer) (o : Option Answer) → IsSpelled form → IsNarrow (2 ^ 25) form → refusal_of h form ≡ o → TakesNothing o → AnswersUnless o h form (event_of h form) answer
+  answer_made : (answer : Answer) (o : Option Answer) → IsSpelled form → IsNarrow (2 ^ 25) form → refusal_of h form ≡ o → TakesNothing o → AnswersUnless limit o h form (event_of h form) answer
       → IsMade (after h form answer)
   answer_made answer (Some refusal) spelled narrow is nothing so = answered (event_of h form) answer refusal so (kept h (event_of h form) refusal nothing made)
   answer_made answer None spelled narrow is nothing so =
       let both = first_none (event_refusal h form) (untaken h (event_of h form)) is in
       outcome_made (event_of h form) answer (λ own m. forms_grow_histories h form m made.grown spelled narrow both.0 own) (events_are_spelled h form made.few spelled narrow both.0) both.1 so
 
-  step_made : (answer : Answer) → IsSpelled form → IsNarrow (2 ^ 25) form → Answers h form answer → IsMade (after h form answer)
+  step_made : (answer : Answer) → IsSpelled form → IsNarrow (2 ^ 25) form → Answers limit h form answer → IsMade (after h form answer)
   step_made answer spelled narrow so = answer_made answer (refusal_of h form) spelled narrow refl (refusal_nothing h form) so
 
-runs_made : (old : History) (forms : Forms) (reports : List Report) (new : History) → IsMade old → AreSpelled forms → AllNarrow (2 ^ 25) forms → Runs old forms reports new → IsMade new
-runs_made old end [] new made spelled narrow runs = subst IsMade (sym runs) made
-runs_made old end (r ∷ rs) new made spelled narrow runs = absurd runs
-runs_made old (dotted f) [] new made spelled narrow runs = absurd runs
-runs_made old (dotted f) (r ∷ rs) new made spelled narrow runs = absurd runs
-runs_made old (next f fs) [] new made spelled narrow runs = absurd runs
-runs_made old (next f fs) (r ∷ rs) new made spelled narrow runs =
-    runs_made (after old f r.answer) fs rs new (step_made old f made r.answer spelled.0 narrow.0 runs.0.answer) spelled.1 narrow.1 runs.1
+runs_made : (limit : ℕ) (old : History) (forms : Forms) (reports : List Report) (new : History) → IsMade old → AreSpelled forms → AllNarrow (2 ^ 25) forms → Runs limit old forms reports new → IsMade new
+runs_made limit old end [] new made spelled narrow runs = subst IsMade (sym runs) made
+runs_made limit old end (r ∷ rs) new made spelled narrow runs = absurd runs
+runs_made limit old (dotted f) [] new made spelled narrow runs = absurd runs
+runs_made limit old (dotted f) (r ∷ rs) new made spelled narrow runs = absurd runs
+runs_made limit old (next f fs) [] new made spelled narrow runs = absurd runs
+runs_made limit old (next f fs) (r ∷ rs) new made spelled narrow runs =
+    runs_made limit (after old f r.answer) fs rs new (step_made limit old f made r.answer spelled.0 narrow.0 runs.0.answer) spelled.1 narrow.1 runs.1
 
 pub runs_make_histories : RunsMakeHistories
-runs_make_histories text forms reports h items few runs =
-    let made = runs_made [] forms reports h nothing_made (items_spelled 500 text forms items) (all_narrow (2 ^ 25) 500 text forms items few) runs in
+runs_make_histories limit text forms reports h items few runs =
+    let made = runs_made limit [] forms reports h nothing_made (items_spelled 500 text forms items) (all_narrow (2 ^ 25) 500 text forms items few) runs in
     record { ready = made.ready; grown = made.grown; printed = λ t over names small. printed_is_read_back h t made.grown over names small }

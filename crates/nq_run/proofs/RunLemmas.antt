@@ -27,17 +27,17 @@ use Rattle.nq_answers.proofs.Deriving.{reported}
 
 -- ---- a run goes on by one form
 
-pub Runs-more : (old : History) (earlier : Forms) (reports : List Report) (mid : History) (form : Form) (report : Report) (new : History)
-    → Runs old earlier reports mid → Step mid form report new → Runs old (push earlier form) (reports ++ report ∷ []) new
-Runs-more old end [] mid form report new here step =
-    let from_old : Step old form report new = subst (λ (h : History). Step h form report new) here step in
-    (subst (λ (h : History). Step old form report h) from_old.history from_old, from_old.history)
-Runs-more old end (r ∷ rs) mid form report new here step = absurd here
-Runs-more old (dotted f) [] mid form report new here step = absurd here
-Runs-more old (dotted f) (r ∷ rs) mid form report new here step = absurd here
-Runs-more old (next f fs) [] mid form report new here step = absurd here
-Runs-more old (next f fs) (r ∷ rs) mid form report new here step =
-    (here.0, Runs-more (after old f r.answer) fs rs mid form report new here.1 step)
+pub Runs-more : (limit : ℕ) (old : History) (earlier : Forms) (reports : List Report) (mid : History) (form : Form) (report : Report) (new : History)
+    → Runs limit old earlier reports mid → Step limit mid form report new → Runs limit old (push earlier form) (reports ++ report ∷ []) new
+Runs-more limit old end [] mid form report new here step =
+    let from_old : Step limit old form report new = subst (λ (h : History). Step limit h form report new) here step in
+    (subst (λ (h : History). Step limit old form report h) from_old.history from_old, from_old.history)
+Runs-more limit old end (r ∷ rs) mid form report new here step = absurd here
+Runs-more limit old (dotted f) [] mid form report new here step = absurd here
+Runs-more limit old (dotted f) (r ∷ rs) mid form report new here step = absurd here
+Runs-more limit old (next f fs) [] mid form report new here step = absurd here
+Runs-more limit old (next f fs) (r ∷ rs) mid form report new here step =
+    (here.0, Runs-more limit (after old f r.answer) fs rs mid form report new here.1 step)
 
 lines_from-more : (n : ℕ) (reports : List Report) (report : Report)
     → lines_from n (reports ++ report ∷ []) ≡ lines_from n reports ++ lines_of_report (n + length reports) report
@@ -113,9 +113,9 @@ log_within_as logging a b slice text same logs = subst (λ (t : List ℕ). LogsW
 
 -- ---- the loop over the forms
 
-pub Ran-start : (logging : Bool) (a b : outcome.Held) (t : Totals) (h : History) (count : ℕ) → t ≡ totals_of [] → h ≡ [] → b.comment ≡ a.comment → Logs logging a.log b.log header_text
-    → (logging ≡ true → count ≡ length header_text) → Ran logging end h t count a b
-Ran-start logging a b t h count zero empty kept logs counted = record {
+pub Ran-start : (limit : ℕ) (logging : Bool) (a b : outcome.Held) (t : Totals) (h : History) (count : ℕ) → t ≡ totals_of [] → h ≡ [] → b.comment ≡ a.comment → Logs logging a.log b.log header_text
+    → (logging ≡ true → count ≡ length header_text) → Ran limit logging end h t count a b
+Ran-start limit logging a b t h count zero empty kept logs counted = record {
   reports = [];
   runs = empty;
   counted = zero;
@@ -135,22 +135,22 @@ lines_of-turn reports report forms is =
 forms_counted : (reports : List Report) (t : Totals) → t ≡ totals_of reports → t.forms ≡ length reports
 forms_counted reports t counted = ap (λ (s : Totals). s.forms) counted ∙ forms_of reports
 
-log_after : (logging : Bool) (earlier : Forms) (reports : List Report) (old new : History) (form : Form) (report : Report) (log block : List ℕ) → Runs [] earlier reports old
-    → (logging ≡ true → IsLogOf earlier reports old log) → Answered form old new report logging block → logging ≡ true → IsLogOf (push earlier form) (reports ++ report ∷ []) new (log ++ block)
-log_after true earlier reports old new form report log block runs so_far answered is = log_more earlier reports old new form report log block runs (so_far refl) answered
-log_after false earlier reports old new form report log block runs so_far answered is = cc
+log_after : (limit : ℕ) (logging : Bool) (earlier : Forms) (reports : List Report) (old new : History) (form : Form) (report : Report) (log block : List ℕ) → Runs limit [] earlier reports old
+    → (logging ≡ true → IsLogOf earlier reports old log) → Answered limit form old new report logging block → logging ≡ true → IsLogOf (push earlier form) (reports ++ report ∷ []) new (log ++ block)
+log_after limit true earlier reports old new form report log block runs so_far answered is = log_more limit earlier reports old new form report log block runs (so_far refl) answered
+log_after limit false earlier reports old new form report log block runs so_far answered is = cc
 
-pub Ran-more : (logging : Bool) (earlier : Forms) (form : Form) (old new : History) (t u : Totals) (count later : ℕ) (a b c : outcome.Held)
-    → Ran logging earlier old t count a b → Turned logging form old new t u count later b c → Ran logging (push earlier form) new u later a c
-Ran-more logging earlier form old new t u count later a b c ran turned = record {
+pub Ran-more : (limit : ℕ) (logging : Bool) (earlier : Forms) (form : Form) (old new : History) (t u : Totals) (count later : ℕ) (a b c : outcome.Held)
+    → Ran limit logging earlier old t count a b → Turned limit logging form old new t u count later b c → Ran limit logging (push earlier form) new u later a c
+Ran-more limit logging earlier form old new t u count later a b c ran turned = record {
   reports = ran.reports ++ turned.report ∷ [];
-  runs = Runs-more [] earlier ran.reports old form turned.report new ran.runs turned.answered.step;
+  runs = Runs-more limit [] earlier ran.reports old form turned.report new ran.runs turned.answered.step;
   counted = turned.totals ∙ ap (with_report turned.report) ran.counted ∙ sym (totals_of-more ran.reports turned.report);
   text = subst (Appends a.comment c.comment) (sym (lines_of-turn ran.reports turned.report t.forms (forms_counted ran.reports t ran.counted)))
       (Appends-trans a.comment b.comment c.comment _ _ ran.text turned.text);
   log = ran.log ++ turned.block;
   logs = logs_after logging a.log b.log c.log ran.log turned.block ran.logs turned.log;
-  log_is = log_after logging earlier ran.reports old new form turned.report ran.log turned.block ran.runs ran.log_is turned.answered;
+  log_is = log_after limit logging earlier ran.reports old new form turned.report ran.log turned.block ran.runs ran.log_is turned.answered;
   log_count = λ logs. turned.log_count logs ∙ ap (λ n. n + length turned.block) (ran.log_count logs) ∙ sym (length-append ran.log turned.block);
 }
 
@@ -163,14 +163,14 @@ pub partial_log : (logging : Bool) (forms : Forms) (reports : List Report) (hist
     → LogsWithin logging a b log → (logging ≡ true → IsLogOf forms reports history log) → PartialLog logging forms reports a b
 partial_log logging forms reports history a b log logs is = record { log = log; history = without_classes history; logs = logs; log_is = is }
 
-pub unended : (logging : Bool) (forms : Forms) (history : History) (t : Totals) (count : ℕ) (a b : outcome.Held) (now : Option (List ℕ)) (ran : Ran logging forms history t count a b) → now ≡ b.log
+pub unended : (limit : ℕ) (logging : Bool) (forms : Forms) (history : History) (t : Totals) (count : ℕ) (a b : outcome.Held) (now : Option (List ℕ)) (ran : Ran limit logging forms history t count a b) → now ≡ b.log
     → UnendedLog logging forms ran.reports a.log now
-unended logging forms history t count a b now ran same =
+unended limit logging forms history t count a b now ran same =
     record { log = ran.log; history = without_classes history; logs = logs_same logging a.log b.log now ran.log ran.logs same; log_is = ran.log_is }
 
 -- the last write of a form failed
-module _ (logging : Bool) (earlier : Forms) (form : Form) (old : History) (t : Totals) (count : ℕ) (a b c : outcome.Held) (ran : Ran logging earlier old t count a b)
-    (wrote : WroteWithin logging (t.forms + 1) form old b c) where
+module _ (limit : ℕ) (logging : Bool) (earlier : Forms) (form : Form) (old : History) (t : Totals) (count : ℕ) (a b c : outcome.Held) (ran : Ran limit logging earlier old t count a b)
+    (wrote : WroteWithin limit logging (t.forms + 1) form old b c) where
   both_lines : report_lines (ran.reports ++ wrote.report ∷ []) ≡ report_lines ran.reports ++ lines_of_report (t.forms + 1) wrote.report
   both_lines = lines_of-turn ran.reports wrote.report t.forms (forms_counted ran.reports t ran.counted)
 
@@ -184,7 +184,7 @@ module _ (logging : Bool) (earlier : Forms) (form : Form) (old : History) (t : T
     report = wrote.report;
     reports_are = refl;
     text = subst (GrowsWithin a.comment c.comment) (sym both_lines) (within_after a.comment b.comment c.comment _ _ ran.text fails.0);
-    log = unended logging earlier old t count a b c.log ran fails.1;
+    log = unended limit logging earlier old t count a b c.log ran fails.1;
   })
   cut_turn (inr fails) =
       let new = after old form wrote.report.answer in
@@ -192,31 +192,31 @@ module _ (logging : Bool) (earlier : Forms) (form : Form) (old : History) (t : T
         subst (Appends a.comment c.comment) (sym both_lines) (Appends-trans a.comment b.comment c.comment _ _ ran.text fails.1),
         partial_log logging (push earlier form) (ran.reports ++ wrote.report ∷ []) new a.log c.log (ran.log ++ wrote.block)
             (logs_within_after logging a.log b.log c.log ran.log wrote.block ran.logs (subst (λ (z : Bool). LogsWithin z b.log c.log wrote.block) (sym fails.0) fails.2))
-            (log_after logging earlier ran.reports old new form wrote.report ran.log wrote.block ran.runs ran.log_is wrote.answered),
+            (log_after limit logging earlier ran.reports old new form wrote.report ran.log wrote.block ran.runs ran.log_is wrote.answered),
       )
 
-pub Ran-stopped : (logging : Bool) (left : Option (List ℕ)) (earlier : Forms) (form : Form) (old : History) (t : Totals) (count : ℕ) (a b c : outcome.Held)
-    → Ran logging earlier old t count a b → IfSome left (λ text. Begun text earlier) → IfSome left (λ text. Begun text (push earlier form)) → TurnStopped logging (t.forms + 1) form old b c
-    → Interrupted logging left a c
-Ran-stopped logging left earlier form old t count a b c ran before later (inl kept) = record {
+pub Ran-stopped : (limit : ℕ) (logging : Bool) (left : Option (List ℕ)) (earlier : Forms) (form : Form) (old : History) (t : Totals) (count : ℕ) (a b c : outcome.Held)
+    → Ran limit logging earlier old t count a b → IfSome left (λ text. Begun text earlier) → IfSome left (λ text. Begun text (push earlier form)) → TurnStopped limit logging (t.forms + 1) form old b c
+    → Interrupted limit logging left a c
+Ran-stopped limit logging left earlier form old t count a b c ran before later (inl kept) = record {
   forms = earlier;
   begins = before;
   reports = ran.reports;
-  reported = reported earlier ran.reports old ran.runs;
+  reported = reported limit earlier ran.reports old ran.runs;
   cut = inr (
     Appends-kept a.comment b.comment c.comment _ ran.text kept.0,
     partial_log logging earlier ran.reports old a.log c.log ran.log (logs_within logging a.log c.log ran.log (logs_same logging a.log b.log c.log ran.log ran.logs kept.1)) ran.log_is,
   );
 }
-Ran-stopped logging left earlier form old t count a b c ran before later (inr wrote) =
+Ran-stopped limit logging left earlier form old t count a b c ran before later (inr wrote) =
     let new = after old form wrote.report.answer in
-    let runs = Runs-more [] earlier ran.reports old form wrote.report new ran.runs wrote.answered.step in
+    let runs = Runs-more limit [] earlier ran.reports old form wrote.report new ran.runs wrote.answered.step in
     record {
       forms = push earlier form;
       begins = later;
       reports = ran.reports ++ wrote.report ∷ [];
-      reported = reported (push earlier form) (ran.reports ++ wrote.report ∷ []) new runs;
-      cut = cut_turn logging earlier form old t count a b c ran wrote wrote.fails;
+      reported = reported limit (push earlier form) (ran.reports ++ wrote.report ∷ []) new runs;
+      cut = cut_turn limit logging earlier form old t count a b c ran wrote wrote.fails;
     }
 
 pub if_some_weaker : {A : Type 0} (o : Option A) (P Q : A → Type 0) → ((a : A) → P a → Q a) → IfSome o P → IfSome o Q
@@ -224,11 +224,11 @@ if_some_weaker None P Q each holds = tt
 if_some_weaker (Some a) P Q each holds = each a holds
 
 -- the block of a form would fill the log
-pub Ran-full : (left : Option (List ℕ)) (earlier : Forms) (form : Form) (old : History) (t : Totals) (count : ℕ) (a b c : outcome.Held)
-    → Ran true earlier old t count a b → IfSome left (λ text. Begun text (push earlier form)) → count < 2 ^ 62 → FilledLog count (t.forms + 1) form old b c → Full left a c
-Ran-full left earlier form old t count a b c ran later within filled =
+pub Ran-full : (limit : ℕ) (left : Option (List ℕ)) (earlier : Forms) (form : Form) (old : History) (t : Totals) (count : ℕ) (a b c : outcome.Held)
+    → Ran limit true earlier old t count a b → IfSome left (λ text. Begun text (push earlier form)) → count < 2 ^ 62 → FilledLog limit count (t.forms + 1) form old b c → Full limit left a c
+Ran-full limit left earlier form old t count a b c ran later within filled =
     let new = after old form filled.report.answer in
-    let runs = Runs-more [] earlier ran.reports old form filled.report new ran.runs filled.answered.step in
+    let runs = Runs-more limit [] earlier ran.reports old form filled.report new ran.runs filled.answered.step in
     let counted = ran.log_count refl in
     let some : 0 < length filled.block = omega (arith, within, filled.full) in
     let one = one_block old (claims_at old form filled.report.answer) filled.block (filled.answered.written refl) some in
@@ -236,7 +236,7 @@ Ran-full left earlier form old t count a b c ran later within filled =
       forms = push earlier form;
       begins = later;
       reports = ran.reports ++ filled.report ∷ [];
-      reported = reported (push earlier form) (ran.reports ++ filled.report ∷ []) new runs;
+      reported = reported limit (push earlier form) (ran.reports ++ filled.report ∷ []) new runs;
       text = subst (Appends a.comment c.comment) (sym (lines_of-turn ran.reports filled.report t.forms (forms_counted ran.reports t ran.counted)))
           (Appends-trans a.comment b.comment c.comment _ _ ran.text filled.text);
       log = ran.log;
@@ -293,12 +293,12 @@ nothing_begun None = tt
 nothing_begun (Some text) = record { front = []; rest = text; whole = refl; spelled = none; seam = inl refl }
 
 -- at most the first line of the log was written
-pub begun_interrupted : (logging : Bool) (left : Option (List ℕ)) (a b : outcome.Held) → b.comment ≡ a.comment → LogsWithin logging a.log b.log header_text → Interrupted logging left a b
-begun_interrupted logging left a b kept logs = record {
+pub begun_interrupted : (limit : ℕ) (logging : Bool) (left : Option (List ℕ)) (a b : outcome.Held) → b.comment ≡ a.comment → LogsWithin logging a.log b.log header_text → Interrupted limit logging left a b
+begun_interrupted limit logging left a b kept logs = record {
   forms = end;
   begins = nothing_begun left;
   reports = [];
-  reported = reported end [] [] refl;
+  reported = reported limit end [] [] refl;
   cut = inr (
     subst (λ (z : Option (List ℕ)). Appends a.comment z []) (sym kept) (Appends-nil a.comment),
     partial_log logging end [] [] a.log b.log header_text logs (λ w. log_begins_law),
@@ -307,15 +307,15 @@ begun_interrupted logging left a b kept logs = record {
 
 -- ---- where it is told in another way whether a log is written
 
-pub turned_as : (l m : Bool) (form : Form) (old new : History) (t u : Totals) (count later : ℕ) (a b : outcome.Held) → l ≡ m → Turned l form old new t u count later a b
-    → Turned m form old new t u count later a b
-turned_as l m form old new t u count later a b same turned = subst (λ (z : Bool). Turned z form old new t u count later a b) same turned
+pub turned_as : (limit : ℕ) (l m : Bool) (form : Form) (old new : History) (t u : Totals) (count later : ℕ) (a b : outcome.Held) → l ≡ m → Turned limit l form old new t u count later a b
+    → Turned limit m form old new t u count later a b
+turned_as limit l m form old new t u count later a b same turned = subst (λ (z : Bool). Turned limit z form old new t u count later a b) same turned
 
-pub stopped_as : (l m : Bool) (number : ℕ) (form : Form) (old : History) (a b : outcome.Held) → l ≡ m → TurnStopped l number form old a b → TurnStopped m number form old a b
-stopped_as l m number form old a b same stopped = subst (λ (z : Bool). TurnStopped z number form old a b) same stopped
+pub stopped_as : (limit : ℕ) (l m : Bool) (number : ℕ) (form : Form) (old : History) (a b : outcome.Held) → l ≡ m → TurnStopped limit l number form old a b → TurnStopped limit m number form old a b
+stopped_as limit l m number form old a b same stopped = subst (λ (z : Bool). TurnStopped limit z number form old a b) same stopped
 
-pub ran_as : (l m : Bool) (forms : Forms) (history : History) (t : Totals) (count : ℕ) (a b : outcome.Held) → l ≡ m → Ran l forms history t count a b → Ran m forms history t count a b
-ran_as l m forms history t count a b same ran = subst (λ (z : Bool). Ran z forms history t count a b) same ran
+pub ran_as : (limit : ℕ) (l m : Bool) (forms : Forms) (history : History) (t : Totals) (count : ℕ) (a b : outcome.Held) → l ≡ m → Ran limit l forms history t count a b → Ran limit m forms history t count a b
+ran_as limit l m forms history t count a b same ran = subst (λ (z : Bool). Ran limit z forms history t count a b) same ran
 
 pub logs_told : (l m : Bool) (a b : Option (List ℕ)) (t : List ℕ) → l ≡ m → Logs l a b t → Logs m a b t
 logs_told l m a b t same logs = subst (λ (z : Bool). Logs z a b t) same logs

@@ -221,14 +221,14 @@ pub entry_stands : (bank : Content) (s : Shell) (mark : Mark) → ShellStands ba
 entry_stands bank s mark stands = record { name = stands.constructor; kind = (stands, refl) }
 
 -- what the form of a shell is answered that nothing refuses
-module _ (old : Session) (form : Form) (s : Shell) (mark : Mark) (logging : Bool) (block : List ℕ) where
+module _ (limit : ℕ) (old : Session) (form : Form) (s : Shell) (mark : Mark) (logging : Bool) (block : List ℕ) where
   abbrev added_shell : logic.Shell
   added_shell = shell_at old.bank s
 
   pub shell_added : {E : Type 0} (r : Result Taken E) → own_refusal (history_of old) (model.AddShell added_shell) ≡ None → (logging ≡ true → IsBlock (history_of old) (Adds (logic.AddShell added_shell)) block)
       → IfOk r (λ t. IsAdded old (shell_entry s mark) t.session) → IfOk r (λ t. t.answer ≡ answers.Accepted) → IfOk r (λ t. t.block ≡ block)
-      → IfOk r (TakesEvent (history_of old) form (model.AddShell added_shell) logging)
+      → IfOk r (TakesEvent limit (history_of old) form (model.AddShell added_shell) logging)
   shell_added (Ok t) lawful written added accepted text =
-      accepted_as old form (model.AddShell added_shell) (shell_entry s mark) logging t added accepted (ap refused lawful) refl refl
+      accepted_as limit old form (model.AddShell added_shell) (shell_entry s mark) logging t added accepted (ap refused lawful) refl refl
       (λ on. subst (IsBlock (history_of old) (Adds (logic.AddShell added_shell))) (sym text) (written on))
   shell_added (Err e) lawful written added accepted text = tt

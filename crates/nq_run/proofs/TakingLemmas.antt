@@ -109,24 +109,24 @@ taken_not : (o : Option Answer) (answer : Answer) → Some answer ≡ o → Take
 taken_not None answer e nothing = absurd cc
 taken_not (Some a) answer e nothing = let same : answer ≡ a = cc in ap is_taken same ∙ nothing
 
-module _ (old : Session) (form : Form) (event : model.Event) (logging : Bool) (answer : Answer) (r : Taken) (is : IsUntaken old answer r) where
+module _ (limit : ℕ) (old : Session) (form : Form) (event : model.Event) (logging : Bool) (answer : Answer) (r : Taken) (is : IsUntaken old answer r) where
   -- the session as it was
-  pub untaken_as : is_taken answer ≡ false → AnswersUnless (untaken (history_of old) event) (history_of old) form event answer → TakesEvent (history_of old) form event logging r
+  pub untaken_as : is_taken answer ≡ false → AnswersUnless limit (untaken (history_of old) event) (history_of old) form event answer → TakesEvent limit (history_of old) form event logging r
   untaken_as nothing answered =
       let h : History = history_of old in
       let told : is_taken (answer_of r.answer) ≡ false = ap is_taken is.answer_is ∙ nothing in
       record {
-        answered = subst (AnswersUnless (untaken h event) h form event) (sym is.answer_is) answered;
+        answered = subst (AnswersUnless limit (untaken h event) h form event) (sym is.answer_is) answered;
         after_is = is.same ∙ sym (kept_after h event (answer_of r.answer) told);
         stands = is.stands;
         written = λ on. no_block h (claims_of event (answer_of r.answer)) r.block is.block_is (no_claims event (answer_of r.answer) told);
       }
 
   -- an event that something keeps from being taken
-  pub hindered : Some answer ≡ untaken (history_of old) event → TakesEvent (history_of old) form event logging r
+  pub hindered : Some answer ≡ untaken (history_of old) event → TakesEvent limit (history_of old) form event logging r
   hindered why =
       untaken_as (taken_not (untaken (history_of old) event) answer why (refused_nothing (own_refusal (history_of old) event)))
-      (subst (λ (o : Option Answer). AnswersUnless o (history_of old) form event answer) why refl)
+      (subst (λ (o : Option Answer). AnswersUnless limit o (history_of old) form event answer) why refl)
 
 -- ---- a form by its event
 
@@ -146,30 +146,30 @@ module _ (old : Session) (bank : Content) (form : Form) (event : Event) (logging
       (subst (IsSpelledEvent (history_of old)) (sym is.is) own)
 
   -- what the event is answered is what the form is answered
-  pub takes_form : (r : Taken) → IsEventOf bank (reading (events_at old.bank old.history) form) event → TakesEvent (events_at bank old.history) form (event_at bank event) logging r → Takes (history_of old) form logging r
-  takes_form r read taken =
+  pub takes_form : (limit : ℕ) (r : Taken) → IsEventOf bank (reading (events_at old.bank old.history) form) event → TakesEvent limit (events_at bank old.history) form (event_at bank event) logging r → Takes limit (history_of old) form logging r
+  takes_form limit r read taken =
       let is = read_here read in
       let h : History = history_of old in
-      let here : TakesEvent h form (event_at bank event) logging r = subst (λ (k : History). TakesEvent k form (event_at bank event) logging r) (same_history old bank stands grows) taken in
-      let own : TakesEvent h form (event_of h form) logging r = subst (λ (e : model.Event). TakesEvent h form e logging r) is.is here in
+      let here : TakesEvent limit h form (event_at bank event) logging r = subst (λ (k : History). TakesEvent limit k form (event_at bank event) logging r) (same_history old bank stands grows) taken in
+      let own : TakesEvent limit h form (event_of h form) logging r = subst (λ (e : model.Event). TakesEvent limit h form e logging r) is.is here in
       record {
-        answered = subst (λ (o : Option Refusal). AnswersUnless (first_answer (refused o) (untaken h (event_of h form))) h form (event_of h form) (answer_of r.answer)) (sym is.lawful) own.answered;
+        answered = subst (λ (o : Option Refusal). AnswersUnless limit (first_answer (refused o) (untaken h (event_of h form))) h form (event_of h form) (answer_of r.answer)) (sym is.lawful) own.answered;
         after_is = own.after_is;
         stands = own.stands;
         written = own.written;
       }
 
 -- a form of which no event was read
-pub refused_form : (old grown : Session) (form : Form) (logging : Bool) (why : EventFault) (answer : FormAnswer) (r : Taken) → history_of grown ≡ history_of old
-    → IsFaultOf (reading (events_at old.bank old.history) form) why → IsAnswerTo why answer → IsUntaken grown (answer_of answer) r → Takes (history_of old) form logging r
-refused_form old grown form logging fault.Memory answer r same told is kept = absurd is
-refused_form old grown form logging (fault.Refused code words) answer r same told is kept =
+pub refused_form : (limit : ℕ) (old grown : Session) (form : Form) (logging : Bool) (why : EventFault) (answer : FormAnswer) (r : Taken) → history_of grown ≡ history_of old
+    → IsFaultOf (reading (events_at old.bank old.history) form) why → IsAnswerTo why answer → IsUntaken grown (answer_of answer) r → Takes limit (history_of old) form logging r
+refused_form limit old grown form logging fault.Memory answer r same told is kept = absurd is
+refused_form limit old grown form logging (fault.Refused code words) answer r same told is kept =
     let h : History = history_of old in
     let own = refused_for h form code words told in
     let says : answer_of r.answer ≡ refusal_answer own.refusal = kept.answer_is ∙ is ∙ own.told in
     let nothing : is_taken (answer_of r.answer) ≡ false = ap is_taken says in
     record {
-      answered = subst (λ (o : Option Refusal). AnswersUnless (first_answer (refused o) (untaken h (event_of h form))) h form (event_of h form) (answer_of r.answer)) (sym own.met) says;
+      answered = subst (λ (o : Option Refusal). AnswersUnless limit (first_answer (refused o) (untaken h (event_of h form))) h form (event_of h form) (answer_of r.answer)) (sym own.met) says;
       after_is = kept.same ∙ same ∙ sym (kept_after h (event_of h form) (answer_of r.answer) nothing);
       stands = kept.stands;
       written = λ on. no_block h (claims_at h form (answer_of r.answer)) r.block kept.block_is (no_claims (event_of h form) (answer_of r.answer) nothing);
@@ -177,15 +177,15 @@ refused_form old grown form logging (fault.Refused code words) answer r same tol
 
 -- ---- an event that is accepted
 
-pub accepted_as : (old : Session) (form : Form) (event : model.Event) (entry : Entry) (logging : Bool) (r : Taken) → IsAdded old entry r.session → r.answer ≡ answers.Accepted
-    → untaken (history_of old) event ≡ None → IsOutcome (history_of old) form event Accepted
+pub accepted_as : (limit : ℕ) (old : Session) (form : Form) (event : model.Event) (entry : Entry) (logging : Bool) (r : Taken) → IsAdded old entry r.session → r.answer ≡ answers.Accepted
+    → untaken (history_of old) event ≡ None → IsOutcome limit (history_of old) form event Accepted
     → history_after (history_of old) event None ≡ history_of old ++ entry_event old.bank entry ∷ []
-    → (logging ≡ true → AreBlocks (history_of old) (event_claims event None) r.block) → TakesEvent (history_of old) form event logging r
-accepted_as old form event entry logging r added accepted free outcome later block =
+    → (logging ≡ true → AreBlocks (history_of old) (event_claims event None) r.block) → TakesEvent limit (history_of old) form event logging r
+accepted_as limit old form event entry logging r added accepted free outcome later block =
     let h : History = history_of old in
     let said : answer_of r.answer ≡ Accepted = ap answer_of accepted in
     record {
-      answered = subst (AnswersUnless (untaken h event) h form event) (sym said) (subst (λ (o : Option Answer). AnswersUnless o h form event Accepted) (sym free) outcome);
+      answered = subst (AnswersUnless limit (untaken h event) h form event) (sym said) (subst (λ (o : Option Answer). AnswersUnless limit o h form event Accepted) (sym free) outcome);
       after_is = added.after ∙ sym later ∙ sym (ap (after_event h event) said);
       stands = added.stands;
       written = λ on. subst (λ (a : Answer). AreBlocks h (claims_of event a) r.block) (sym said) (block on);
@@ -195,21 +195,21 @@ boot_lawful : (h : History) → own_refusal h model.BootStrap ≡ None
 unfolding own_refusal
 boot_lawful h = refl
 
-boot_answered : (h : History) (form : Form) → AnswersUnless (untaken h model.BootStrap) h form model.BootStrap Accepted
-boot_answered h form = subst (λ (o : Option Refusal). AnswersUnless (refused o) h form model.BootStrap Accepted) (sym (boot_lawful h)) refl
+boot_answered : (limit : ℕ) (h : History) (form : Form) → AnswersUnless limit (untaken h model.BootStrap) h form model.BootStrap Accepted
+boot_answered limit h form = subst (λ (o : Option Refusal). AnswersUnless limit (refused o) h form model.BootStrap Accepted) (sym (boot_lawful h)) refl
 
 passed_lawful : (h : History) → own_refusal h model.Skipped ≡ None
 unfolding own_refusal
 passed_lawful h = refl
 
 -- a form that is passed over
-pub passed_answered : (h : History) (form : Form) → AnswersUnless (untaken h model.Skipped) h form model.Skipped Skipped
-passed_answered h form = subst (λ (o : Option Refusal). AnswersUnless (refused o) h form model.Skipped Skipped) (sym (passed_lawful h)) refl
+pub passed_answered : (limit : ℕ) (h : History) (form : Form) → AnswersUnless limit (untaken h model.Skipped) h form model.Skipped Skipped
+passed_answered limit h form = subst (λ (o : Option Refusal). AnswersUnless limit (refused o) h form model.Skipped Skipped) (sym (passed_lawful h)) refl
 
 -- the ground history again
-pub grounded : (old new : Session) (form : Form) (logging : Bool) (text : List ℕ) → history_of new ≡ [] → SessionStands new
-    → (logging ≡ true → IsBlock (history_of old) Grounded text) → TakesEvent (history_of old) form model.BootStrap logging (record { session = new; answer = answers.Accepted; block = text })
-grounded old new form logging text empty stands block = record { answered = boot_answered (history_of old) form; after_is = empty; stands = stands; written = block }
+pub grounded : (limit : ℕ) (old new : Session) (form : Form) (logging : Bool) (text : List ℕ) → history_of new ≡ [] → SessionStands new
+    → (logging ≡ true → IsBlock (history_of old) Grounded text) → TakesEvent limit (history_of old) form model.BootStrap logging (record { session = new; answer = answers.Accepted; block = text })
+grounded limit old new form logging text empty stands block = record { answered = boot_answered limit (history_of old) form; after_is = empty; stands = stands; written = block }
 
 -- ---- axioms and lemmas
 
@@ -234,71 +234,71 @@ module _ (h : History) (name : Name) (classes : List RuleClass) (t : Term) where
       record { symbol = spelled.symbol; unused = statable.addable.unused; room = lt-ltb (length h) 10000 statable.addable.room }
 
 -- an axiom that was added
-pub axiom_taken : (old : Session) (form : Form) (entry : Entry) (name : Name) (classes : List RuleClass) (t : Term) (logging : Bool) (r : Taken) → refused (formula_refusal (history_of old) name classes t) ≡ None
+pub axiom_taken : (limit : ℕ) (old : Session) (form : Form) (entry : Entry) (name : Name) (classes : List RuleClass) (t : Term) (logging : Bool) (r : Taken) → refused (formula_refusal (history_of old) name classes t) ≡ None
     → entry_event old.bank entry ≡ logic.Axiom name classes t → IsAdded old entry r.session → r.answer ≡ answers.Accepted
-    → (logging ≡ true → IsBlock (history_of old) (Adds (logic.Axiom name [] t)) r.block) → TakesEvent (history_of old) form (model.AddAxiom name classes t) logging r
-axiom_taken old form entry name classes t logging r none is added accepted block =
+    → (logging ≡ true → IsBlock (history_of old) (Adds (logic.Axiom name [] t)) r.block) → TakesEvent limit (history_of old) form (model.AddAxiom name classes t) logging r
+axiom_taken limit old form entry name classes t logging r none is added accepted block =
     let h : History = history_of old in
-    accepted_as old form (model.AddAxiom name classes t) entry logging r added accepted (ap refused (axiom_is h name classes t) ∙ none) refl (ap (λ (e : logic.Event). h ++ e ∷ []) (sym is)) block
+    accepted_as limit old form (model.AddAxiom name classes t) entry logging r added accepted (ap refused (axiom_is h name classes t) ∙ none) refl (ap (λ (e : logic.Event). h ++ e ∷ []) (sym is)) block
 
 -- the same of what is answered to it
-pub axiom_taken_on : (old : Session) (form : Form) (entry : Entry) (name : Name) (classes : List RuleClass) (t : Term) (logging : Bool) (block : List ℕ) (o : Result Taken AllocError)
+pub axiom_taken_on : (limit : ℕ) (old : Session) (form : Form) (entry : Entry) (name : Name) (classes : List RuleClass) (t : Term) (logging : Bool) (block : List ℕ) (o : Result Taken AllocError)
     → refused (formula_refusal (history_of old) name classes t) ≡ None → entry_event old.bank entry ≡ logic.Axiom name classes t
     → IfOk o (λ r. IsAdded old entry r.session) → IfOk o (λ r. r.answer ≡ answers.Accepted) → IfOk o (λ r. r.block ≡ block)
-    → (logging ≡ true → IsBlock (history_of old) (Adds (logic.Axiom name [] t)) block) → IfOk o (TakesEvent (history_of old) form (model.AddAxiom name classes t) logging)
-axiom_taken_on old form entry name classes t logging block (Err why) none is added accepted same written = tt
-axiom_taken_on old form entry name classes t logging block (Ok r) none is added accepted same written =
-    axiom_taken old form entry name classes t logging r none is added accepted (λ on. subst (IsBlock (history_of old) (Adds (logic.Axiom name [] t))) (sym same) (written on))
+    → (logging ≡ true → IsBlock (history_of old) (Adds (logic.Axiom name [] t)) block) → IfOk o (TakesEvent limit (history_of old) form (model.AddAxiom name classes t) logging)
+axiom_taken_on limit old form entry name classes t logging block (Err why) none is added accepted same written = tt
+axiom_taken_on limit old form entry name classes t logging block (Ok r) none is added accepted same written =
+    axiom_taken limit old form entry name classes t logging r none is added accepted (λ on. subst (IsBlock (history_of old) (Adds (logic.Axiom name [] t))) (sym same) (written on))
 
 -- a lemma that was tried
-pub tried_lemma : (h : History) (form : Form) (name : Name) (classes : List RuleClass) (t : Term) (hints : model.Hints) (logging : Bool) (r : Taken) → refused (formula_refusal h name classes t) ≡ None
-    → TriesLemma h form name classes t hints logging r → TakesEvent h form (model.ProveLemma name classes t hints) logging r
-tried_lemma h form name classes t hints logging r none tries =
+pub tried_lemma : (limit : ℕ) (h : History) (form : Form) (name : Name) (classes : List RuleClass) (t : Term) (hints : model.Hints) (logging : Bool) (r : Taken) → refused (formula_refusal h name classes t) ≡ None
+    → TriesLemma limit h form name classes t hints logging r → TakesEvent limit h form (model.ProveLemma name classes t hints) logging r
+tried_lemma limit h form name classes t hints logging r none tries =
     let event : model.Event = model.ProveLemma name classes t hints in
     record {
-      answered = subst (λ (o : Option Answer). AnswersUnless o h form event (answer_of r.answer)) (sym (ap refused (lemma_is h name classes t hints) ∙ none)) tries.tried;
+      answered = subst (λ (o : Option Answer). AnswersUnless limit o h form event (answer_of r.answer)) (sym (ap refused (lemma_is h name classes t hints) ∙ none)) tries.tried;
       after_is = tries.after_is;
       stands = tries.stands;
       written = tries.written;
     }
 
 -- a lemma that was proved and added
-pub lemma_proved : (h : History) (form : Form) (name : Name) (classes : List RuleClass) (t : Term) (hints : model.Hints) (answer : Answer) (logging : Bool) (r : Taken) → is_taken answer ≡ true → IsTried h form hints t answer
+pub lemma_proved : (limit : ℕ) (h : History) (form : Form) (name : Name) (classes : List RuleClass) (t : Term) (hints : model.Hints) (answer : Answer) (logging : Bool) (r : Taken) → is_taken answer ≡ true → IsTried limit h form hints t answer
     → history_of r.session ≡ h ++ logic.Lemma name classes t ∷ [] → SessionStands r.session → answer_of r.answer ≡ answer
-    → (logging ≡ true → IsBlock h (Adds (logic.Lemma name [] t)) r.block) → TriesLemma h form name classes t hints logging r
-lemma_proved h form name classes t hints answer logging r takes tried later stands says block =
+    → (logging ≡ true → IsBlock h (Adds (logic.Lemma name [] t)) r.block) → TriesLemma limit h form name classes t hints logging r
+lemma_proved limit h form name classes t hints answer logging r takes tried later stands says block =
     let told : is_taken (answer_of r.answer) ≡ true = ap is_taken says ∙ takes in
     record {
-      tried = subst (IsTried h form hints t) (sym says) tried;
+      tried = subst (IsTried limit h form hints t) (sym says) tried;
       after_is = later ∙ sym (ap (λ (b : Bool). if b then h ++ logic.Lemma name classes t ∷ [] else h) told);
       stands = stands;
       written = λ on. subst (λ (b : Bool). AreBlocks h (if b then Adds (logic.Lemma name [] t) ∷ [] else []) r.block) (sym told) (block on);
     }
 
 -- the way in which a fragment proves a lemma
-pub fragment_tried : (h : History) (form : Form) (hints : model.Hints) (t : Term) (way : Quick) → IsFirstFragment h t way → Derivable h (holds t) → IsTried h form hints t (Proved (quick_of way))
-fragment_tried h form hints t Taut first shown = by_tautology first refl
-fragment_tried h form hints t Eval first shown = by_evaluation (record { first = first; shown = shown; answer_is = refl })
-fragment_tried h form hints t Inst first shown = by_instance first refl
+pub fragment_tried : (limit : ℕ) (h : History) (form : Form) (hints : model.Hints) (t : Term) (way : Quick) → IsFirstFragment h t way → Derivable h (holds t) → IsTried limit h form hints t (Proved (quick_of way))
+fragment_tried limit h form hints t Taut first shown = by_tautology first refl
+fragment_tried limit h form hints t Eval first shown = by_evaluation (record { first = first; shown = shown; answer_is = refl })
+fragment_tried limit h form hints t Inst first shown = by_instance first refl
 
 -- a lemma that is not taken
-pub lemma_left : (old : Session) (form : Form) (name : Name) (classes : List RuleClass) (t : Term) (hints : model.Hints) (answer : Answer) (logging : Bool) (r : Taken) → is_taken answer ≡ false
-    → IsTried (history_of old) form hints t answer → IsUntaken old answer r → TriesLemma (history_of old) form name classes t hints logging r
-lemma_left old form name classes t hints answer logging r takes tried kept =
+pub lemma_left : (limit : ℕ) (old : Session) (form : Form) (name : Name) (classes : List RuleClass) (t : Term) (hints : model.Hints) (answer : Answer) (logging : Bool) (r : Taken) → is_taken answer ≡ false
+    → IsTried limit (history_of old) form hints t answer → IsUntaken old answer r → TriesLemma limit (history_of old) form name classes t hints logging r
+lemma_left limit old form name classes t hints answer logging r takes tried kept =
     let nothing : is_taken (answer_of r.answer) ≡ false = ap is_taken kept.answer_is ∙ takes in
     record {
-      tried = subst (IsTried (history_of old) form hints t) (sym kept.answer_is) tried;
+      tried = subst (IsTried limit (history_of old) form hints t) (sym kept.answer_is) tried;
       after_is = kept.same ∙ sym (kept_by (is_taken (answer_of r.answer)) (history_of old) _ nothing);
       stands = kept.stands;
       written = λ on. no_block (history_of old) (lemma_claims name t (answer_of r.answer)) r.block kept.block_is (none_by (is_taken (answer_of r.answer)) _ nothing);
     }
 
 -- what is found by a fragment
-pub way_found : (h : History) (t : Term) (result : Found) (way : Quick) → way_in result ≡ Some way → IsFoundBy h t result → IsFirstFragment h t way × Derivable h (holds t)
-way_found h t (Fragment line own) way is found = let same : own ≡ way = cc in subst (λ (w : Quick). IsFirstFragment h t w × Derivable h (holds t)) same found
-way_found h t (Moves line) way is found = absurd cc
-way_found h t finding.OutOfSteps way is found = absurd cc
-way_found h t finding.Unknown way is found = absurd cc
+pub way_found : (limit : ℕ) (h : History) (t : Term) (result : Found) (way : Quick) → way_in result ≡ Some way → IsFoundBy limit h t result → IsFirstFragment h t way × Derivable h (holds t)
+way_found limit h t (Fragment line own) way is found = let same : own ≡ way = cc in subst (λ (w : Quick). IsFirstFragment h t w × Derivable h (holds t)) same found
+way_found limit h t (Moves line) way is found = absurd cc
+way_found limit h t finding.OutOfSteps way is found = absurd cc
+way_found limit h t finding.Unknown way is found = absurd cc
 
 pub way_block : (h : History) (name : Name) (t : Term) (result : Found) (way : Quick) (block : List ℕ) → way_in result ≡ Some way → AreBlocks h (found_claims name t result) block
     → IsBlock h (Adds (logic.Lemma name [] t)) block
@@ -308,20 +308,20 @@ way_block h name t finding.OutOfSteps way block is blocks = absurd cc
 way_block h name t finding.Unknown way block is blocks = absurd cc
 
 -- what is not found by a fragment is in none
-pub no_way : (h : History) (t : Term) (result : Found) → way_in result ≡ None → IsFoundBy h t result → IsInNoFragment h t
-no_way h t (Fragment line own) is found = absurd cc
-no_way h t (Moves line) is found = found.0
-no_way h t finding.OutOfSteps is found = found
-no_way h t finding.Unknown is found = found
+pub no_way : (limit : ℕ) (h : History) (t : Term) (result : Found) → way_in result ≡ None → IsFoundBy limit h t result → IsInNoFragment h t
+no_way limit h t (Fragment line own) is found = absurd cc
+no_way limit h t (Moves line) is found = found.0
+no_way limit h t finding.OutOfSteps is found = found.0
+no_way limit h t finding.Unknown is found = found
 
 -- what is answered to a lemma that was proved and added
-pub proved_on : (o : Result Taken AllocError) (h : History) (form : Form) (name : Name) (classes : List RuleClass) (t : Term) (hints : model.Hints) (told : FormAnswer) (answer : Answer) (logging : Bool) (block : List ℕ)
-    → is_taken answer ≡ true → IsTried h form hints t answer → IfOk o (λ r. history_of r.session ≡ h ++ logic.Lemma name classes t ∷ []) → IfOk o (λ r. SessionStands r.session)
+pub proved_on : (limit : ℕ) (o : Result Taken AllocError) (h : History) (form : Form) (name : Name) (classes : List RuleClass) (t : Term) (hints : model.Hints) (told : FormAnswer) (answer : Answer) (logging : Bool) (block : List ℕ)
+    → is_taken answer ≡ true → IsTried limit h form hints t answer → IfOk o (λ r. history_of r.session ≡ h ++ logic.Lemma name classes t ∷ []) → IfOk o (λ r. SessionStands r.session)
     → IfOk o (λ r. r.answer ≡ told) → answer_of told ≡ answer → IfOk o (λ r. r.block ≡ block) → (logging ≡ true → IsBlock h (Adds (logic.Lemma name [] t)) block)
-    → IfOk o (TriesLemma h form name classes t hints logging)
-proved_on (Err why) h form name classes t hints told answer logging block takes tried later stands says is written text = tt
-proved_on (Ok r) h form name classes t hints told answer logging block takes tried later stands says is written text =
-    lemma_proved h form name classes t hints answer logging r takes tried later stands (ap answer_of says ∙ is) (λ on. subst (IsBlock h (Adds (logic.Lemma name [] t))) (sym written) (text on))
+    → IfOk o (TriesLemma limit h form name classes t hints logging)
+proved_on limit (Err why) h form name classes t hints told answer logging block takes tried later stands says is written text = tt
+proved_on limit (Ok r) h form name classes t hints told answer logging block takes tried later stands says is written text =
+    lemma_proved limit h form name classes t hints answer logging r takes tried later stands (ap answer_of says ∙ is) (λ on. subst (IsBlock h (Adds (logic.Lemma name [] t))) (sym written) (text on))
 
 -- what a formula's answer tells, where its classes are these
 pub told_none : (h : History) (name : Name) (xs ys : List Class) (t : Term) (o : Option FormAnswer) → xs ≡ ys → option_map answer_of o ≡ refused (formula_refusal h name (map class_of xs) t) → o ≡ None

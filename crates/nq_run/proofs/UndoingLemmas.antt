@@ -43,11 +43,11 @@ unfolding undo_refusal
 undo_ground h form x answer ground is = ap (λ (a : Answer). Some a) is ∙ sym (ap refused (refusal_is h x true true ground.known ground.ground))
 
 -- the event and all later ones are gone
-pub undo_taken : (old new : Session) (form : Form) (x : Name) (count : ℕ) (logging : Bool) (text : List ℕ) → IsUndoable x (history_of old) count → history_of new ≡ before_event x (history_of old)
+pub undo_taken : (limit : ℕ) (old new : Session) (form : Form) (x : Name) (count : ℕ) (logging : Bool) (text : List ℕ) → IsUndoable x (history_of old) count → history_of new ≡ before_event x (history_of old)
     → SessionStands new → (logging ≡ true → IsBlock (history_of old) (Undoes x) text)
-    → TakesEvent (history_of old) form (model.Undo x) logging (record { session = new; answer = answers.Undone count; block = text })
-undo_taken old new form x count logging text is before stands block = record {
-  answered = subst (λ (o : Option Refusal). AnswersUnless (refused o) (history_of old) form (model.Undo x) (Undone count)) (sym (undo_lawful (history_of old) x is.known is.past))
+    → TakesEvent limit (history_of old) form (model.Undo x) logging (record { session = new; answer = answers.Undone count; block = text })
+undo_taken limit old new form x count logging text is before stands block = record {
+  answered = subst (λ (o : Option Refusal). AnswersUnless limit (refused o) (history_of old) form (model.Undo x) (Undone count)) (sym (undo_lawful (history_of old) x is.known is.past))
       (ap (λ (n : ℕ). Undone n) is.count);
   after_is = before;
   stands = stands;

@@ -6,3 +6,4 @@ pub mod Sessions
 pub mod Recursions
 pub mod RunFaults
 pub mod RunHistories
+pub mod GivingUp

@@ -1,4 +1,5 @@
--- What the two sinks of a run have gained when it ends: the commentary, and the log where it is written.
+-- What the two sinks of a run have gained when it ends: the commentary, and the log where it is written. Each event of the run may
+-- take so many steps as its limit.
 use Rattle.std.specs.Prelude.{◌≡◌, ◌⊎◌, ◌+◌, ◌^◌, ◌≤◌, ◌<◌, ◌==◌, ℕ, Bool, true, false, List, [], ◌∷◌, ◌++◌, length, Option, None, Some, IfSome, IsTrue, if◌then◌else◌}
 use Rattle.std.specs.Io.KnownBytes.{Appends, Keeps}
 use Rattle.nq_logic.specs.Histories.{History}
@@ -73,37 +74,37 @@ AreBlocks h (c ∷ []) text = IsBlock h c text
 AreBlocks h (c ∷ (d ∷ claims)) text = ⊥
 
 -- What a form is answered in a history: the step, and the text that it adds to the log, which is the block of what it claims.
-pub record Answered (form : Form) (old new : History) (report : Report) (logging : Bool) (block : List ℕ) : Type 0 where
-  pub step : Step old form report new
+pub record Answered (limit : ℕ) (form : Form) (old new : History) (report : Report) (logging : Bool) (block : List ℕ) : Type 0 where
+  pub step : Step limit old form report new
   pub written : logging ≡ true → AreBlocks old (claims_at old form report.answer) block
 
 -- one form was run, and the sinks gained the lines of its report and its block
-pub record Turned (logging : Bool) (form : Form) (old new : History) (before later : Totals) (count next : ℕ) (held now : Held) : Type 0 where
+pub record Turned (limit : ℕ) (logging : Bool) (form : Form) (old new : History) (before later : Totals) (count next : ℕ) (held now : Held) : Type 0 where
   pub report : Report
   pub block : List ℕ
-  pub answered : Answered form old new report logging block
+  pub answered : Answered limit form old new report logging block
   pub totals : later ≡ with_report report before
   pub text : Appends held.comment now.comment (lines_of_report (before.forms + 1) report)
   pub log : Logs logging held.log now.log block
   pub log_count : logging ≡ true → next ≡ count + length block
 
 -- the form's turn stopped in the writing of its report, or of its block behind it
-pub record WroteWithin (logging : Bool) (number : ℕ) (form : Form) (old : History) (held now : Held) : Type 0 where
+pub record WroteWithin (limit : ℕ) (logging : Bool) (number : ℕ) (form : Form) (old : History) (held now : Held) : Type 0 where
   pub report : Report
   pub block : List ℕ
-  pub answered : Answered form old (after old form report.answer) report logging block
+  pub answered : Answered limit form old (after old form report.answer) report logging block
   pub fails : WriteFails logging (lines_of_report number report) block held now
 
 -- the same, or before anything was written
-abbrev pub TurnStopped : Bool → ℕ → Form → History → Held → Held → Type 0
-TurnStopped logging number form old held now = (Keeps held.comment now.comment × (now.log ≡ held.log)) ⊎ WroteWithin logging number form old held now
+abbrev pub TurnStopped : ℕ → Bool → ℕ → Form → History → Held → Held → Type 0
+TurnStopped limit logging number form old held now = (Keeps held.comment now.comment × (now.log ≡ held.log)) ⊎ WroteWithin limit logging number form old held now
 
 -- The form's block, which is no longer than a block may be, would bring the log to its limit, where it holds so many bytes of
 -- this run. The report was written.
-pub record FilledLog (count number : ℕ) (form : Form) (old : History) (held now : Held) : Type 0 where
+pub record FilledLog (limit count number : ℕ) (form : Form) (old : History) (held now : Held) : Type 0 where
   pub report : Report
   pub block : List ℕ
-  pub answered : Answered form old (after old form report.answer) report true block
+  pub answered : Answered limit form old (after old form report.answer) report true block
   pub small : length block ≤ 2 ^ 40
   pub full : 2 ^ 62 ≤ count + length block
   pub text : Appends held.comment now.comment (lines_of_report number report)
@@ -115,9 +116,9 @@ IsLogOf forms reports history text = IsOpenLog text (claims_from [] forms report
 
 -- These forms were run from the ground history, and the sinks gained the lines of their reports, and the log with its first
 -- line, of so many bytes.
-pub record Ran (logging : Bool) (forms : Forms) (history : History) (totals : Totals) (count : ℕ) (held now : Held) : Type 0 where
+pub record Ran (limit : ℕ) (logging : Bool) (forms : Forms) (history : History) (totals : Totals) (count : ℕ) (held now : Held) : Type 0 where
   pub reports : List Report
-  pub runs : Runs [] forms reports history
+  pub runs : Runs limit [] forms reports history
   pub counted : totals ≡ totals_of reports
   pub text : Appends held.comment now.comment (report_lines reports)
   pub log : List ℕ
@@ -126,8 +127,8 @@ pub record Ran (logging : Bool) (forms : Forms) (history : History) (totals : To
   pub log_count : logging ≡ true → count ≡ length log
 
 -- these forms were run from the ground history, with such a history at the end
-abbrev pub WasRun : Bool → Forms → Totals → ℕ → Held → Held → Type 0
-WasRun logging forms totals count held now = (history : History) × Ran logging forms history totals count held now
+abbrev pub WasRun : ℕ → Bool → Forms → Totals → ℕ → Held → Held → Type 0
+WasRun limit logging forms totals count held now = (history : History) × Ran limit logging forms history totals count held now
 
 -- the last line of the log, where the whole text was run
 abbrev pub last_text : Ending → List ℕ
@@ -168,26 +169,26 @@ pub record PartialLog (logging : Bool) (forms : Forms) (reports : List Report) (
   pub log_is : logging ≡ true → IsOpenLog log (claims_from [] forms reports) history
 
 -- the whole text was read, and the sinks gained the whole commentary and the whole log
-pub record Finished (logging : Bool) (left : Option (List ℕ)) (ending : Ending) (reports : List Report) (held now : Held) : Type 0 where
+pub record Finished (limit : ℕ) (logging : Bool) (left : Option (List ℕ)) (ending : Ending) (reports : List Report) (held now : Held) : Type 0 where
   pub forms : Forms
   pub reads : IfSome left (λ text. Reads 500 (2 ^ 25) text forms ending)
-  pub reported : Reported forms reports
+  pub reported : Reported limit forms reports
   pub text : Appends held.comment now.comment (rendering reports ending)
   pub log : FinishedLog logging ending forms reports held.log now.log
 
 -- reading stopped by this fault, with so many bytes left in the source, and the sinks gained the lines of the reports so far
 -- and the log so far
-pub record Halted (logging : Bool) (start left : Option (List ℕ)) (why : ReadFault) (held now : Held) : Type 0 where
+pub record Halted (limit : ℕ) (logging : Bool) (start left : Option (List ℕ)) (why : ReadFault) (held now : Held) : Type 0 where
   pub forms : Forms
   pub reads : IfSome start (λ text. IsEnding text forms left why)
   pub reports : List Report
-  pub reported : Reported forms reports
+  pub reported : Reported limit forms reports
   pub text : Appends held.comment now.comment (report_lines reports)
   pub log : UnendedLog logging forms reports held.log now.log
 
 -- The log is that of all forms but the last, and what would follow it is one block, which claims what the event of the last
 -- form does.
-pub record BlockIsNext (forms : Forms) (reports : List Report) (log next : List ℕ) : Type 0 where
+pub record BlockIsNext (limit : ℕ) (forms : Forms) (reports : List Report) (log next : List ℕ) : Type 0 where
   pub earlier : Forms
   pub form : Form
   pub forms_are : forms ≡ push earlier form
@@ -195,33 +196,33 @@ pub record BlockIsNext (forms : Forms) (reports : List Report) (log next : List 
   pub report : Report
   pub reports_are : reports ≡ before ++ report ∷ []
   pub history : History
-  pub runs : Runs [] earlier before history
+  pub runs : Runs limit [] earlier before history
   pub log_is : IsLogOf earlier before history log
   pub claim : Claim
   pub claims : claims_at history form report.answer ≡ claim ∷ []
   pub block : IsBlock history claim next
 
 -- The log is that of all forms, which are the whole text, and what would follow it is its last line.
-pub record EndIsNext (left : Option (List ℕ)) (forms : Forms) (reports : List Report) (log next : List ℕ) : Type 0 where
+pub record EndIsNext (limit : ℕ) (left : Option (List ℕ)) (forms : Forms) (reports : List Report) (log next : List ℕ) : Type 0 where
   pub reads : IfSome left (λ text. Reads 500 (2 ^ 25) text forms done)
   pub history : History
-  pub runs : Runs [] forms reports history
+  pub runs : Runs limit [] forms reports history
   pub log_is : IsLogOf forms reports history log
   pub last : next ≡ end_text
 
 -- The log is full: it ends between two blocks, or before its last line, and with what would follow it would have 2^62 bytes or
 -- more. Since no block has more than 2^40 bytes, it is short of 2^62 bytes by no more than that. Nothing of what would follow
 -- was written, but the lines of all reports so far were.
-pub record Full (left : Option (List ℕ)) (held now : Held) : Type 0 where
+pub record Full (limit : ℕ) (left : Option (List ℕ)) (held now : Held) : Type 0 where
   pub forms : Forms
   pub begins : IfSome left (λ text. Begun text forms)
   pub reports : List Report
-  pub reported : Reported forms reports
+  pub reported : Reported limit forms reports
   pub text : Appends held.comment now.comment (report_lines reports)
   pub log : List ℕ
   pub next : List ℕ
   pub logs : Appends held.log now.log log
-  pub follows : BlockIsNext forms reports log next ⊎ EndIsNext left forms reports log next
+  pub follows : BlockIsNext limit forms reports log next ⊎ EndIsNext limit left forms reports log next
   pub small : length next ≤ 2 ^ 40
   pub full : 2 ^ 62 ≤ length log + length next
 
@@ -238,11 +239,11 @@ pub record BreaksReport (logging : Bool) (forms : Forms) (reports : List Report)
 
 -- Some forms were run. The sinks gained a front part of their lines, and the log of all of them but the last; or all of their
 -- lines, and a front part of their log.
-pub record Interrupted (logging : Bool) (left : Option (List ℕ)) (held now : Held) : Type 0 where
+pub record Interrupted (limit : ℕ) (logging : Bool) (left : Option (List ℕ)) (held now : Held) : Type 0 where
   pub forms : Forms
   pub begins : IfSome left (λ text. Begun text forms)
   pub reports : List Report
-  pub reported : Reported forms reports
+  pub reported : Reported limit forms reports
   pub cut : BreaksReport logging forms reports held now ⊎ (Appends held.comment now.comment (report_lines reports) × PartialLog logging forms reports held.log now.log)
 
 -- the closing lines were not written to their end, or the last line was not begun: the log has nothing of it
@@ -260,19 +261,19 @@ pub record BreaksLast (ending : Ending) (reports : List Report) (log : List ℕ)
 
 -- All forms were run, to the end of the text or to a fault of its spelling. The sinks gained a front part of the whole
 -- commentary, and the log without its last line; or the whole commentary, and the log with a front part of its last line.
-pub record CutOff (logging : Bool) (left : Option (List ℕ)) (held now : Held) : Type 0 where
+pub record CutOff (limit : ℕ) (logging : Bool) (left : Option (List ℕ)) (held now : Held) : Type 0 where
   pub forms : Forms
   pub spelling : Option SyntaxFault
   pub reads : IfSome left (λ text. Reads 500 (2 ^ 25) text forms (ending_of spelling))
   pub reports : List Report
-  pub reported : Reported forms reports
+  pub reported : Reported limit forms reports
   pub log : List ℕ
   pub history : History
   pub log_is : logging ≡ true → IsOpenLog log (claims_from [] forms reports) history
   pub cut : LacksLast logging (ending_of spelling) reports log held now ⊎ ((logging ≡ true) × BreaksLast (ending_of spelling) reports log held now)
 
-abbrev pub Stopped : Bool → Option (List ℕ) → Held → Held → Type 0
-Stopped logging left held now = Interrupted logging left held now ⊎ CutOff logging left held now
+abbrev pub Stopped : ℕ → Bool → Option (List ℕ) → Held → Held → Type 0
+Stopped limit logging left held now = Interrupted limit logging left held now ⊎ CutOff limit logging left held now
 
 -- the status of a run that came to the end of its text, or to a fault of its spelling
 abbrev pub status_of : Option SyntaxFault → Totals → ℕ

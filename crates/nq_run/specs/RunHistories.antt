@@ -31,8 +31,8 @@ pub record IsRunHistory (h : History) : Type 0 where
   -- the text of each term over the history's functions that isn't large is read back as that term
   pub printed : (t : Term) → IsTerm (symbols_of h) t → HasNames t → is_large t ≡ false → IsReadBack h t
 
--- So is the history of each run from the ground history over the forms of a text, and that of each first part of the run:
--- the first forms have a text too.
+-- So is the history of each run from the ground history over the forms of a text, whatever its limit of steps, and that of each
+-- first part of the run: the first forms have a text too.
 abbrev pub RunsMakeHistories : Type 0
 RunsMakeHistories =
-    (text : List ℕ) (forms : Forms) (reports : List Report) (h : History) → Items 500 text forms → length text ≤ 2 ^ 25 → Runs [] forms reports h → IsRunHistory h
+    (limit : ℕ) (text : List ℕ) (forms : Forms) (reports : List Report) (h : History) → Items 500 text forms → length text ≤ 2 ^ 25 → Runs limit [] forms reports h → IsRunHistory h

@@ -35,6 +35,7 @@ use Rattle.nq_run.specs.declared.proving.Tried.{Tried}
 use Rattle.nq_answers.specs.Claims.{claims_at, claims_of}
 use Rattle.nq_run.specs.HistoryView.{history_of, SessionStands}
 use Rattle.nq_run.specs.Outcome.{AreBlocks}
+use Rattle.nq_answers.specs.Spending.{IsUsedUp}
 use Rattle.nq_answers.specs.Steps.{Answers, AnswersUnless, IsTried, after, after_event, is_taken, untaken}
 
 -- what a verdict says of a lemma
@@ -52,19 +53,20 @@ line_in (Moves line) = Some line
 line_in finding.OutOfSteps = None
 line_in finding.Unknown = None
 
--- the line has only the term, and the fragment is the first that holds it, or no fragment holds it
+-- The line has only the term, and the fragment is the first that holds it, or no fragment holds it. Steps ran out only where all
+-- are used up.
 abbrev pub IsShownBy : Work → History → Term → Found → Type 0
 IsShownBy work h t (Fragment line way) = (has_only (clause_at work.bank work.log line) (t ∷ []) ≡ true) × IsFirstFragment h t way
 IsShownBy work h t (Moves line) = (has_only (clause_at work.bank work.log line) (t ∷ []) ≡ true) × IsInNoFragment h t
-IsShownBy work h t finding.OutOfSteps = IsInNoFragment h t
+IsShownBy work h t finding.OutOfSteps = IsInNoFragment h t × IsUsedUp work.counter.limit h
 IsShownBy work h t finding.Unknown = IsInNoFragment h t
 
--- what is found of a lemma is so: it is derivable where it is proved
-abbrev pub IsFoundBy : History → Term → Found → Type 0
-IsFoundBy h t (Fragment line way) = IsFirstFragment h t way × Derivable h (holds t)
-IsFoundBy h t (Moves line) = IsInNoFragment h t × Derivable h (holds t)
-IsFoundBy h t finding.OutOfSteps = IsInNoFragment h t
-IsFoundBy h t finding.Unknown = IsInNoFragment h t
+-- what is found of a lemma is so: it is derivable where it is proved, and all steps are used up where they ran out
+abbrev pub IsFoundBy : ℕ → History → Term → Found → Type 0
+IsFoundBy limit h t (Fragment line way) = IsFirstFragment h t way × Derivable h (holds t)
+IsFoundBy limit h t (Moves line) = IsInNoFragment h t × Derivable h (holds t)
+IsFoundBy limit h t finding.OutOfSteps = IsInNoFragment h t × IsUsedUp limit h
+IsFoundBy limit h t finding.Unknown = IsInNoFragment h t
 
 -- the fragment that proved a lemma
 abbrev pub way_in : Found → Option Quick
@@ -83,9 +85,9 @@ abbrev pub found_claims : Name → Term → Found → List Claim
 found_claims name t found = shown_claims name t (line_in found)
 
 -- The try of a lemma: what is found of it, the block of what it claims, and the bank as it was before.
-pub record Tries (bank : Content) (history : List Entry) (name : Sym) (goal : TermId) (logging : Bool) (tried : Tried) : Type 0 where
+pub record Tries (limit : ℕ) (bank : Content) (history : List Entry) (name : Sym) (goal : TermId) (logging : Bool) (tried : Tried) : Type 0 where
   pub same : tried.bank ≡ bank
-  pub found : IsFoundBy (events_at bank history) (term_at bank goal) tried.found
+  pub found : IsFoundBy limit (events_at bank history) (term_at bank goal) tried.found
   pub written : logging ≡ true → AreBlocks (events_at bank history) (found_claims (text_at bank name) (term_at bank goal) tried.found) tried.block
 
 -- the mark was taken of an earlier bank, which held these entries and has grown since
@@ -109,15 +111,15 @@ pub record IsAdded (old : Session) (entry : Entry) (new : Session) : Type 0 wher
   pub stands : SessionStands new
 
 -- what a form is answered, the session after it, and the block of what it claims
-pub record Takes (old : History) (form : Form) (logging : Bool) (r : Taken) : Type 0 where
-  pub answered : Answers old form (answer_of r.answer)
+pub record Takes (limit : ℕ) (old : History) (form : Form) (logging : Bool) (r : Taken) : Type 0 where
+  pub answered : Answers limit old form (answer_of r.answer)
   pub after_is : history_of r.session ≡ after old form (answer_of r.answer)
   pub stands : SessionStands r.session
   pub written : logging ≡ true → AreBlocks old (claims_at old form (answer_of r.answer)) r.block
 
 -- the same for the event of a form that isn't refused
-pub record TakesEvent (old : History) (form : Form) (event : Event) (logging : Bool) (r : Taken) : Type 0 where
-  pub answered : AnswersUnless (untaken old event) old form event (answer_of r.answer)
+pub record TakesEvent (limit : ℕ) (old : History) (form : Form) (event : Event) (logging : Bool) (r : Taken) : Type 0 where
+  pub answered : AnswersUnless limit (untaken old event) old form event (answer_of r.answer)
   pub after_is : history_of r.session ≡ after_event old event (answer_of r.answer)
   pub stands : SessionStands r.session
   pub written : logging ≡ true → AreBlocks old (claims_of event (answer_of r.answer)) r.block
@@ -130,8 +132,8 @@ abbrev pub lemma_claims : Name → Term → Answer → List Claim
 lemma_claims name t answer = if is_taken answer then Adds (Lemma name [] t) ∷ [] else []
 
 -- the same for a lemma that nothing keeps from being tried
-pub record TriesLemma (old : History) (form : Form) (name : Name) (classes : List RuleClass) (t : Term) (hints : Hints) (logging : Bool) (r : Taken) : Type 0 where
-  pub tried : IsTried old form hints t (answer_of r.answer)
+pub record TriesLemma (limit : ℕ) (old : History) (form : Form) (name : Name) (classes : List RuleClass) (t : Term) (hints : Hints) (logging : Bool) (r : Taken) : Type 0 where
+  pub tried : IsTried limit old form hints t (answer_of r.answer)
   pub after_is : history_of r.session ≡ after_lemma old name classes t (answer_of r.answer)
   pub stands : SessionStands r.session
   pub written : logging ≡ true → AreBlocks old (lemma_claims name t (answer_of r.answer)) r.block

@@ -87,7 +87,7 @@ impl Session {
         requires name { IsNamed self.bank name }
         requires term { Stands self.bank term }
         requires spelled { IsSpelledFormula (history_of self) (text_at self.bank name) (term_at self.bank term) }
-        ensures taken { IfOk result (TakesEvent (history_of self) (tree given.entry.form.now)
+        ensures taken { IfOk result (TakesEvent given.entry.steps (history_of self) (tree given.entry.form.now)
             (model.AddAxiom (text_at self.bank name) (map class_of classes.items) (term_at self.bank term)) given.entry.logging) }
         ensures learnt { IfOk result (λ r. P.has_learnt prover.new r.session.history) }
     {
@@ -123,7 +123,7 @@ impl Session {
         requires hints { HintsStand self.bank lemma.hints.now }
         requires hint_terms { HintsAreIn self.bank self.history lemma.hints.now }
         requires spelled { IsSpelledFormula (history_of self) (text_at self.bank lemma.name) (term_at self.bank lemma.goal) }
-        ensures taken { IfOk result (TakesEvent (history_of self) (tree given.entry.form.now)
+        ensures taken { IfOk result (TakesEvent given.entry.steps (history_of self) (tree given.entry.form.now)
             (model.ProveLemma (text_at self.bank lemma.entry.name) (map class_of classes.items) (term_at self.bank lemma.entry.goal) (hints_at self.bank lemma.entry.hints.now)) given.entry.logging) }
         ensures learnt { IfOk result (λ r. P.has_learnt prover.new r.session.history) }
     {
@@ -151,7 +151,7 @@ impl Session {
         requires hint_terms { HintsAreIn self.bank self.history lemma.hints.now }
         requires spelled { IsSpelledFormula (history_of self) (text_at self.bank lemma.name) (term_at self.bank lemma.goal) }
         requires free { IsFree (history_of self) (text_at self.bank lemma.name) }
-        ensures tries { IfOk result (TriesLemma (history_of self) (tree given.entry.form.now) (text_at self.bank lemma.entry.name) (map class_of classes.items) (term_at self.bank lemma.entry.goal)
+        ensures tries { IfOk result (TriesLemma given.entry.steps (history_of self) (tree given.entry.form.now) (text_at self.bank lemma.entry.name) (map class_of classes.items) (term_at self.bank lemma.entry.goal)
             (hints_at self.bank lemma.entry.hints.now) given.entry.logging) }
         ensures learnt { IfOk result (λ r. P.has_learnt prover.new r.session.history) }
     {
@@ -229,7 +229,7 @@ impl Session {
     }
 
     /// The answer to a lemma in no fragment: it fails where its first goal is false, and where a goal is left over and moves did not
-    /// prove it; else it is told what was found.
+    /// prove it; else it is told what was found, and a lemma of which nothing was found is given up.
     fn searched<P: Prover>(
         self,
         alloc: Global,
@@ -249,10 +249,10 @@ impl Session {
         requires hint_terms { HintsAreIn self.bank self.history lemma.hints.now }
         requires spelled { IsSpelledFormula (history_of self) (text_at self.bank lemma.name) (term_at self.bank lemma.goal) }
         requires free { IsFree (history_of self) (text_at self.bank lemma.name) }
-        requires found { IsFoundBy (history_of self) (term_at self.bank lemma.goal) found }
+        requires found { IsFoundBy given.steps (history_of self) (term_at self.bank lemma.goal) found }
         requires other { way_in found ≡ None }
         requires written { given.logging ≡ true → AreBlocks (history_of self) (found_claims (text_at self.bank lemma.name) (term_at self.bank lemma.goal) found) block }
-        ensures tries { IfOk result (TriesLemma (history_of self) (tree given.entry.form.now) (text_at self.bank lemma.entry.name) (map class_of classes.items) (term_at self.bank lemma.entry.goal)
+        ensures tries { IfOk result (TriesLemma given.entry.steps (history_of self) (tree given.entry.form.now) (text_at self.bank lemma.entry.name) (map class_of classes.items) (term_at self.bank lemma.entry.goal)
             (hints_at self.bank lemma.entry.hints.now) given.entry.logging) }
         ensures learnt { IfOk result (λ r. P.has_learnt prover.new r.session.history) }
     {
@@ -280,7 +280,7 @@ impl Session {
                 session.proved(prover, given.mark, lemma, classes, answer, block)
             }
             Found::OutOfSteps => { Ok(session.untaken(alloc, given.mark, FormAnswer::OutOfSteps)) }
-            Found::Unknown => session.not_yet(alloc, given.mark, given.form),
+            Found::Unknown => session.given_up(alloc, given, lemma, judged.text),
             Found::Fragment(_, _) => unreachable!(),
         }
     }

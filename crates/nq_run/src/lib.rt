@@ -18,6 +18,7 @@ mod session;
 // events, each by its kind
 mod definition_events;
 mod formula_events;
+mod given_up;
 mod measured;
 mod name_events;
 mod shell_events;

@@ -49,7 +49,7 @@ impl Session {
             (map (measure_at self.bank) measures.now) }
         requires free { untaken (history_of self) (events.Defn (text_at self.bank name) (texts_at self.bank formals.items) (term_at self.bank body) (map (measure_at self.bank) measures.now)) ≡ None }
         requires recursive { mentions (text_at self.bank name) (term_at self.bank body) ≡ true }
-        ensures taken { IfOk result (TakesEvent (history_of self) (tree given.entry.form.now)
+        ensures taken { IfOk result (TakesEvent given.entry.steps (history_of self) (tree given.entry.form.now)
             (events.Defn (text_at self.bank name) (texts_at self.bank formals.items) (term_at self.bank body) (map (measure_at self.bank) measures.now)) given.entry.logging) }
         ensures learnt { IfOk result (λ r. P.has_learnt prover.new r.session.history) }
     {

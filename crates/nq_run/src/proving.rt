@@ -121,7 +121,7 @@ pub(crate) fn try_lemma<P: Prover>(
     requires hint_terms { HintsAreIn bank history.now lemma.hints.now }
     requires spelled { IsSpelledFormula (events_at bank history.now) (text_at bank lemma.name) (term_at bank lemma.goal) }
     requires free { IsFree (events_at bank history.now) (text_at bank lemma.name) }
-    ensures tried { IfOk result (Tries bank history.now lemma.entry.name lemma.entry.goal logging) }
+    ensures tried { IfOk result (Tries steps bank history.now lemma.entry.name lemma.entry.goal logging) }
     ensures learnt { IfOk result (λ tried. P.has_learnt prover.new history.now) }
 {
     let mark = bank.mark();
@@ -151,7 +151,7 @@ fn tried_by(
     requires holds { WorkHolds history.now work }
     requires shown { IsShownBy work (events_at work.bank history.now) (term_at work.bank lemma.goal) found }
     ensures bank { IfOk result (λ tried. tried.bank ≡ work.bank) }
-    ensures found { IfOk result (λ tried. IsFoundBy (events_at work.bank history.now) (term_at work.bank lemma.entry.goal) tried.found) }
+    ensures found { IfOk result (λ tried. IsFoundBy work.counter.limit (events_at work.bank history.now) (term_at work.bank lemma.entry.goal) tried.found) }
     ensures written { IfOk result (λ tried. logging ≡ true → AreBlocks (events_at work.bank history.now)
         (found_claims (text_at work.bank lemma.entry.name) (term_at work.bank lemma.entry.goal) tried.found) tried.block) }
 {

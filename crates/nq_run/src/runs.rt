@@ -116,20 +116,20 @@ pub fn run_events<S: Source, O: Sink, L: Sink, P: Prover>(
 
     // The whole commentary was written, and the whole log.
     ensures finished { IfOk result (λ ended. (reports : List Report)
-        × Finished logging (S.left src.old) (ending_of ended.fault) reports (held_in (O.written comment.old) (L.written log.old)) (held_in (O.written comment.new) (L.written log.new))
+        × Finished limit logging (S.left src.old) (ending_of ended.fault) reports (held_in (O.written comment.old) (L.written log.old)) (held_in (O.written comment.new) (L.written log.new))
         × (totals_in ended.counts ≡ totals_of reports)) }
 
     // The lines of all forms that stand whole in the bytes taken were written.
     ensures read { result ≡ Err RunFault.Read
-        → Halted logging (S.left src.old) (S.left src.new) ReadFault.Read (held_in (O.written comment.old) (L.written log.old)) (held_in (O.written comment.new) (L.written log.new)) }
+        → Halted limit logging (S.left src.old) (S.left src.new) ReadFault.Read (held_in (O.written comment.old) (L.written log.old)) (held_in (O.written comment.new) (L.written log.new)) }
     ensures too_long { result ≡ Err RunFault.TooLong
-        → Halted logging (S.left src.old) (S.left src.new) ReadFault.FileTooLong (held_in (O.written comment.old) (L.written log.old)) (held_in (O.written comment.new) (L.written log.new))
-        ⊎ ((logging ≡ true) × Full (S.left src.old) (held_in (O.written comment.old) (L.written log.old)) (held_in (O.written comment.new) (L.written log.new))) }
+        → Halted limit logging (S.left src.old) (S.left src.new) ReadFault.FileTooLong (held_in (O.written comment.old) (L.written log.old)) (held_in (O.written comment.new) (L.written log.new))
+        ⊎ ((logging ≡ true) × Full limit (S.left src.old) (held_in (O.written comment.old) (L.written log.old)) (held_in (O.written comment.new) (L.written log.new))) }
 
     // After any fault the lines of some forms were written and a front part of their log, or a front part of the lines and the
     // log of all those forms but the last; or the whole commentary and the log with a front part of its last line, or a front
     // part of the commentary and the log without that line.
-    ensures stopped { OnErr result (Stopped logging (S.left src.old) (held_in (O.written comment.old) (L.written log.old)) (held_in (O.written comment.new) (L.written log.new))) }
+    ensures stopped { OnErr result (Stopped limit logging (S.left src.old) (held_in (O.written comment.old) (L.written log.old)) (held_in (O.written comment.new) (L.written log.new))) }
 
     // A fault of a stream has its cause.
     ensures source { result ≡ Err RunFault.Read → Rose (S.faults src.old) (S.faults src.new) }
@@ -194,15 +194,15 @@ fn run_forms<S: Source, O: Sink, L: Sink, P: Prover>(
 ) -> Result<Walked, RunFault>
     requires learnt { HasGround (P.has_learnt prover.old) }
     ensures walked { IfOk result (λ walked. (forms : Forms)
-        × WasRun logging forms (totals_in walked.progress.counts) walked.progress.log.count (held_in (O.written comment.old) (L.written log.old)) (held_in (O.written comment.new) (L.written log.new))
+        × WasRun limit logging forms (totals_in walked.progress.counts) walked.progress.log.count (held_in (O.written comment.old) (L.written log.old)) (held_in (O.written comment.new) (L.written log.new))
         × IfSome (S.left src.old) (λ text. Begun text forms)
         × IfSome (S.left src.old) (λ text. IsStop text forms (S.left src.new) walked.stop)) }
     ensures logging { IfOk result (λ walked. walked.progress.log.logging ≡ logging) }
     ensures bound { IfOk result (λ walked. walked.progress.log.count < 2 ^ 62) }
     ensures read { IfOk result (λ walked. walked.stop ≡ Some ReadFault.Read
         → Rose (S.faults src.old) (S.faults src.new)) }
-    ensures full { result ≡ Err RunFault.TooLong → (logging ≡ true) × Full (S.left src.old) (held_in (O.written comment.old) (L.written log.old)) (held_in (O.written comment.new) (L.written log.new)) }
-    ensures stopped { OnErr result (Interrupted logging (S.left src.old) (held_in (O.written comment.old) (L.written log.old)) (held_in (O.written comment.new) (L.written log.new))) }
+    ensures full { result ≡ Err RunFault.TooLong → (logging ≡ true) × Full limit (S.left src.old) (held_in (O.written comment.old) (L.written log.old)) (held_in (O.written comment.new) (L.written log.new)) }
+    ensures stopped { OnErr result (Interrupted limit logging (S.left src.old) (held_in (O.written comment.old) (L.written log.old)) (held_in (O.written comment.new) (L.written log.new))) }
     ensures write { result ≡ Err RunFault.Write → Rose (O.faults comment.old) (O.faults comment.new) ⊎ Rose (L.faults log.old) (L.faults log.new) }
     ensures later_comment { O.faults comment.old ≤ O.faults comment.new }
     ensures later_log { L.faults log.old ≤ L.faults log.new }
@@ -283,16 +283,16 @@ fn turn<O: Sink, L: Sink, P: Prover>(
     requires narrow { IsNarrow (2 ^ 25) (tree form.now) }
     requires number { progress.counts.forms + 1 < 2 ^ 64 }
     requires within { progress.log.count < 2 ^ 62 }
-    ensures turned { IfOk result (λ turn. Turned progress.log.logging (tree form.now) (history_of session)
+    ensures turned { IfOk result (λ turn. Turned limit progress.log.logging (tree form.now) (history_of session)
         (history_of turn.session) (totals_in progress.counts) (totals_in turn.progress.counts) progress.log.count turn.progress.log.count
         (held_in (O.written comment.old) (L.written log.old)) (held_in (O.written comment.new) (L.written log.new))) }
     ensures stands { IfOk result (λ turn. SessionStands turn.session) }
     ensures learnt { IfOk result (λ turn. P.has_learnt prover.new turn.session.history) }
     ensures same { IfOk result (λ turn. turn.progress.log.logging ≡ progress.log.logging) }
     ensures bound { IfOk result (λ turn. turn.progress.log.count < 2 ^ 62) }
-    ensures full { result ≡ Err RunFault.TooLong → (progress.log.logging ≡ true) × FilledLog progress.log.count (progress.counts.forms + 1) (tree form.now) (history_of session)
+    ensures full { result ≡ Err RunFault.TooLong → (progress.log.logging ≡ true) × FilledLog limit progress.log.count (progress.counts.forms + 1) (tree form.now) (history_of session)
         (held_in (O.written comment.old) (L.written log.old)) (held_in (O.written comment.new) (L.written log.new)) }
-    ensures stopped { OnErr result (TurnStopped progress.log.logging (progress.counts.forms + 1) (tree form.now)
+    ensures stopped { OnErr result (TurnStopped limit progress.log.logging (progress.counts.forms + 1) (tree form.now)
         (history_of session) (held_in (O.written comment.old) (L.written log.old)) (held_in (O.written comment.new) (L.written log.new))) }
     ensures write { result ≡ Err RunFault.Write → Rose (O.faults comment.old) (O.faults comment.new) ⊎ Rose (L.faults log.old) (L.faults log.new) }
     ensures later_comment { O.faults comment.old ≤ O.faults comment.new }
@@ -338,7 +338,7 @@ fn take_form<P: Prover>(
     requires learnt { P.has_learnt prover.old session.history }
     requires spelled { IsSpelled (tree form.now) }
     requires narrow { IsNarrow (2 ^ 25) (tree form.now) }
-    ensures takes { IfOk result (Takes (history_of session) (tree form.now) logging) }
+    ensures takes { IfOk result (Takes limit (history_of session) (tree form.now) logging) }
     ensures learnt { IfOk result (λ r. P.has_learnt prover.new r.session.history) }
     ensures small { IfOk result (λ r. length r.block ≤ 2 ^ 40) }
     ensures only { OnErr result (result ≡ Err RunFault.Memory) }

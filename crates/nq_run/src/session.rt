@@ -19,9 +19,9 @@ ghost use Rattle.nq_spelling.specs.Spelled.{IsSpelled};
 ghost use Rattle.nq_run.specs.HistoryView.{history_of, SessionStands};
 ghost use Rattle.nq_run.specs.Sessions.{IsAdded, IsMarkBefore, IsUntaken, Takes, TakesEvent};
 ghost use Rattle.nq_spelling.specs.SpelledEvents.{IsSpelledEvent};
-ghost use Rattle.nq_answers.specs.Steps.{not_yet, refused};
+ghost use Rattle.nq_answers.specs.Steps.{refused};
 
-use crate::answers::{not_yet, told, too_many_events};
+use crate::answers::{told, too_many_events};
 use crate::proving::{Conjecture, block_of};
 use nq_bank::{Bank, Mark};
 use nq_block::Closing;
@@ -86,7 +86,7 @@ impl Session {
         requires learnt { P.has_learnt prover.old self.history }
         requires spelled { IsSpelled (tree form.now) }
         requires narrow { IsNarrow (2 ^ 25) (tree form.now) }
-        ensures takes { IfOk result (Takes (history_of self) (tree form.now) logging) }
+        ensures takes { IfOk result (Takes steps (history_of self) (tree form.now) logging) }
         ensures learnt { IfOk result (λ r. P.has_learnt prover.new r.session.history) }
     {
         events_are_spelled();
@@ -124,7 +124,7 @@ impl Session {
         requires mark { IsMarkBefore self.bank self.history given.mark }
         requires event { EventStands self.bank event }
         requires spelled { IsSpelledEvent (history_of self) (event_read self.bank event) }
-        ensures takes { IfOk result (TakesEvent (history_of self) (tree given.entry.form.now) (event_read self.bank event) given.entry.logging) }
+        ensures takes { IfOk result (TakesEvent given.entry.steps (history_of self) (tree given.entry.form.now) (event_read self.bank event) given.entry.logging) }
         ensures learnt { IfOk result (λ r. P.has_learnt prover.new r.session.history) }
     {
         match event {
@@ -180,21 +180,6 @@ impl Session {
             answer,
             block: Text::new(alloc),
         }
-    }
-
-    /// The session as it was before a form that asks for what isn't built yet.
-    pub(crate) fn not_yet(
-        self,
-        alloc: Global,
-        mark: Mark,
-        form: &Sexp<'_>,
-    ) -> Result<Taken, AllocError>
-        requires stands { SessionStands self }
-        requires mark { IsMarkBefore self.bank self.history mark }
-        ensures { IfOk result (IsUntaken self (not_yet (tree form.now))) }
-    {
-        let answer = not_yet(alloc, form)?;
-        Ok(self.untaken(alloc, mark, answer))
     }
 
     /// The refusal of a new event where there is no room for one.

@@ -1,5 +1,5 @@
 // Events that take others away.
-ghost use Rattle.std.specs.Prelude.{◌≡◌, IfOk, is_some, true, false};
+ghost use Rattle.std.specs.Prelude.{◌≡◌, ℕ, IfOk, is_some, true, false};
 ghost use Rattle.nq_form.specs.Form.{Form};
 ghost use Rattle.nq_sexp.specs.Tree.{tree};
 ghost use Rattle.nq_logic.specs.Ground.{ground_history};
@@ -29,7 +29,7 @@ impl Session {
     ) -> Result<Taken, AllocError>
         requires stands { SessionStands self }
         requires learnt { P.has_learnt prover.old self.history }
-        ensures taken { (form : Form) → IfOk result (TakesEvent (history_of self) form model.BootStrap logging) }
+        ensures taken { (limit : ℕ) (form : Form) → IfOk result (TakesEvent limit (history_of self) form model.BootStrap logging) }
         ensures learnt { IfOk result (λ r. P.has_learnt prover.new r.session.history) }
     {
         let block = self.block(alloc, logging, &Closing::BootStrap)?;
@@ -59,7 +59,7 @@ impl Session {
         requires learnt { P.has_learnt prover.old self.history }
         requires mark { IsMarkBefore self.bank self.history given.mark }
         requires name { IsNamed self.bank name }
-        ensures taken { IfOk result (TakesEvent (history_of self) (tree given.entry.form.now) (model.Undo (text_at self.bank name)) given.entry.logging) }
+        ensures taken { IfOk result (TakesEvent given.entry.steps (history_of self) (tree given.entry.form.now) (model.Undo (text_at self.bank name)) given.entry.logging) }
         ensures learnt { IfOk result (λ r. P.has_learnt prover.new r.session.history) }
     {
         self.bank.is_sound();

@@ -22,9 +22,10 @@ fn lower(plan: Plan) -> Plan
     }
 }
 
-/// Has the search of a goal come to its end?
-fn is_over(work: &Work, plan: Plan) -> bool {
-    work.counter.used() >= plan.until
+/// Has the search of a goal come to its end before a turn? The first way of a goal is tried in any case: it is the cheapest, and what
+/// led to the goal was paid for.
+fn is_over(work: &Work, plan: Plan, turn: u32) -> bool {
+    turn > 0 && work.counter.used() >= plan.until
 }
 
 fn push(lines: &mut Vec<u64>, line: u64) -> Result<(), Stop>
@@ -78,7 +79,7 @@ fn seek_turns<T: Tactic>(
 {
     ready_histories();
     for turn in 0..plan.turns {
-        if is_over(work, plan) {
+        if is_over(work, plan, turn) {
             return Ok(None);
         }
         if let Some(line) = seek_turn(work, tactic, history, hints, plan, goal, turn)? {

@@ -8,7 +8,7 @@ ghost use Rattle.nq_goals.specs.declared.kinds.Cause.TheVariants.{NoInduction};
 ghost use Rattle.nq_goals.specs.Inducting.{suggestions};
 ghost use Rattle.nq_goals.specs.Moves.{HasNoCandidate};
 ghost use Rattle.nq_goals.specs.Spent.{IsFalse, IsSpent, MayBeSpent};
-ghost use Rattle.nq_stuck.specs.Left.{IsLeftToInduction};
+ghost use Rattle.nq_stuck.specs.Left.{HasNoChange, IsLeftToGroups, IsLeftToInduction};
 
 use crate::common::has_generalization;
 use crate::destructors::has_elimination;
@@ -40,6 +40,25 @@ fn may_simplify(
     Ok(!ground)
 }
 
+/// May SUBST, FERT, ELIM or GEN lead on from the goal?
+fn may_change(bank: &Bank, history: &History, hints: &Hints, goal: &[TermId]) -> Result<bool, Fault>
+    requires history { HistoryStands bank.now history.now }
+    requires goal { All (Stands bank.now) goal.now }
+    ensures { IfOk result (λ b. b ≡ false → HasNoChange (events_at bank.now history.now) (hints_at bank.now hints.now) (terms_at bank.now goal.now)) }
+{
+    if has_substitution(bank, goal)? {
+        return Ok(true);
+    }
+    if has_fertilization(bank, goal, goal)? {
+        return Ok(true);
+    }
+    if has_elimination(bank, history, goal)? {
+        return Ok(true);
+    }
+    let general = has_generalization(bank, history, hints, goal)?;
+    Ok(general)
+}
+
 /// May some move other than simplification and induction lead on from the goal?
 fn may_have_candidate(
     bank: &Bank,
@@ -54,17 +73,7 @@ fn may_have_candidate(
     if may_drop(goal) {
         return Ok(true);
     }
-    if has_substitution(bank, goal)? {
-        return Ok(true);
-    }
-    if has_fertilization(bank, goal, goal)? {
-        return Ok(true);
-    }
-    if has_elimination(bank, history, goal)? {
-        return Ok(true);
-    }
-    let general = has_generalization(bank, history, hints, goal)?;
-    Ok(general)
+    may_change(bank, history, hints, goal)
 }
 
 /// The same. A goal with too many calls to be looked at may have one.
@@ -144,6 +153,31 @@ pub fn is_left_to_induction(
     if is_normal(bank, history, hints, goal)? {
         let led = may_go_on(bank, history, hints, goal)?;
         Ok(!led)
+    } else {
+        Ok(false)
+    }
+}
+
+/// Is the goal in normal form, and has it no candidate of SUBST, ELIM, FERT and GEN? Only IRR and induction may lead on from it. It
+/// may be so where the answer is no: where an axiom or a lemma of the class ELIM stands in the history, and where the goal has more
+/// than two thousand calls.
+pub fn is_left_to_groups(
+    bank: &Bank,
+    history: &History,
+    hints: &Hints,
+    goal: &[TermId],
+) -> Result<bool, AllocError>
+    requires history { HistoryStands bank.now history.now }
+    requires hints { HintsStand bank.now hints.now }
+    requires goal { All (Stands bank.now) goal.now }
+    ensures { IfOk result (λ b. b ≡ true → IsLeftToGroups (events_at bank.now history.now) (hints_at bank.now hints.now) (terms_at bank.now goal.now)) }
+{
+    if is_normal(bank, history, hints, goal)? {
+        match may_change(bank, history, hints, goal) {
+            Ok(led) => Ok(!led),
+            Err(Fault::TooMany) => Ok(false),
+            Err(Fault::Memory) => Err(AllocError),
+        }
     } else {
         Ok(false)
     }

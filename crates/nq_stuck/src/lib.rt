@@ -32,4 +32,4 @@ mod dropping;
 // goals
 mod goal;
 
-pub use goal::{is_left_to_induction, is_stuck};
+pub use goal::{is_left_to_groups, is_left_to_induction, is_stuck};

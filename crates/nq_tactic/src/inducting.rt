@@ -7,6 +7,7 @@ ghost use Rattle.nq_search.specs.Goals.{CanSearch, IsGoalIn};
 ghost use Rattle.nq_search.specs.Searching.{IsLed};
 ghost use Rattle.nq_tactic.specs.Ways.{IsWay, nexts_of};
 
+use crate::refuting::is_false;
 use crate::way::{Induction, Way};
 use nq_bank::TermId;
 use nq_history::{Hints, History};
@@ -82,7 +83,7 @@ pub fn lead_inducted(
     ensures grows { WorkGrows history.now work.old work.new }
     ensures out { result ≡ Err Stop.OutOfSteps → work.new.counter.used ≡ work.new.counter.limit }
 {
-    if hints.no_induct {
+    if hints.no_induct || is_false(work, history, goal)? {
         return Ok(None);
     }
     lead_suggested(work, history, hints, goal, None, turn, plan)

@@ -11,6 +11,7 @@ ghost use Rattle.nq_search.specs.Searching.{IsLed};
 ghost use Rattle.nq_tactic.specs.Ways.{IsWay, nexts_of};
 
 use crate::arithmetic::number_line;
+use crate::refuting::is_one_false;
 use crate::simplifying::simplified;
 use crate::tested::tested_line;
 use crate::trivial::truth_line;
@@ -166,6 +167,26 @@ fn moved_on(
     }
 }
 
+/// Leads a goal on by a move, unless one of the goals to which it leads has a counterexample.
+fn lead_unless_false(
+    work: &Work,
+    history: &History,
+    goal: &[TermId],
+    moved: Moved,
+    plan: Plan,
+) -> Result<Option<Led<Way>>, Stop>
+    requires stands { WorkStands history.now work.now }
+    requires goal { IsGoalIn history.now work.now goal.now }
+    requires moved { IsMove history.now work.now goal.now moved }
+    ensures led { IfOk result (λ found. IfSome found (IsLed nexts_of IsWay history.now work.now goal.now)) }
+    ensures memory { result ≡ Err Stop.OutOfSteps → ⊥ }
+{
+    if is_one_false(work, history, moved.children.as_slice())? {
+        return Ok(None);
+    }
+    Ok(Some(moved_on(work, history, goal, moved, plan)))
+}
+
 /// Leads a goal on by a move, where it has one of this kind.
 pub fn lead_moved(
     work: &mut Work,
@@ -182,7 +203,7 @@ pub fn lead_moved(
     ensures out { result ≡ Err Stop.OutOfSteps → work.new.counter.used ≡ work.new.counter.limit }
 {
     match move_of(work, history, hints, goal, kind)? {
-        Some(moved) => Ok(Some(moved_on(work, history, goal, moved, plan))),
+        Some(moved) => lead_unless_false(work, history, goal, moved, plan),
         None => Ok(None),
     }
 }

@@ -100,7 +100,7 @@ fn seek_further(
         return Ok(None);
     }
     let plan = plan_until(work.counter.limit());
-    seek(work, &mut Waterfall::new(4), history, hints, plan, goal)
+    seek(work, &mut Waterfall::new(8), history, hints, plan, goal)
 }
 
 /// Seeks a line of a lemma.

@@ -16,6 +16,9 @@ mod arithmetic;
 mod tested;
 mod trivial;
 
+// goals that have counterexamples
+mod refuting;
+
 // each way, and the way back
 mod closing;
 mod inducting;

@@ -22,14 +22,12 @@ use nq_search::{Led, Plan, Tactic};
 pub struct Waterfall {
     /// The share, in tenths, of the steps that a way gets where others follow.
     share: u64,
-    /// How many goals are left of a lemma that is simplified.
-    parts: usize,
 }
 
 impl Waterfall {
     /// The tactic, which gives a way this share, in tenths, of the steps that are left, where others follow.
     pub fn new(share: u64) -> Waterfall {
-        Waterfall { share, parts: 0 }
+        Waterfall { share }
     }
 
     /// The plan of the goals to which a simplification leads.
@@ -49,7 +47,7 @@ impl Waterfall {
 
     /// Simplifies a goal.
     fn simplify(
-        &mut self,
+        &self,
         work: &mut Work,
         history: &History,
         hints: &Hints,
@@ -64,9 +62,6 @@ impl Waterfall {
     {
         let next = self.plan_after_simplification(work, plan);
         let led = lead_simplified(work, history, hints, goal, next)?;
-        if plan.whole {
-            self.parts = nexts_of(&led.way).len();
-        }
         Ok(Some(led))
     }
 
@@ -116,7 +111,7 @@ impl Waterfall {
             Choice::Refute => false,
             Choice::Hint => plan.inductions == 0,
             Choice::Move(_) => false,
-            Choice::Induct(_) => plan.inductions == 0 || plan.whole && self.parts < 2,
+            Choice::Induct(_) => plan.inductions == 0,
             Choice::Nothing => true,
         }
     }

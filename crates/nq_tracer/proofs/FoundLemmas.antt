@@ -32,3 +32,9 @@ part_found bank t ids i d u below parts there =
     let whole : Term = term_at bank t in
     let argument = parts_by whole (term_at bank (get_or ids i d)) (number_of whole) refl (subst (IsAmong (term_at bank (get_or ids i d))) parts (id_among bank ids i d below)) in
     record { stands = there.stands; among = part_of_argument whole (term_at bank (get_or ids i d)) (term_at bank u) argument there.among }
+
+-- an id at its place is among the ids
+pub literal_among : (ids : List TermId) (i : ℕ) (d : TermId) → i < length ids → IsAmong (get_or ids i d) ids
+literal_among [] i d below = absurd (omega (arith, below))
+literal_among (x ∷ ids) zero d below = inl refl
+literal_among (x ∷ ids) (suc i) d below = inr (literal_among ids i d (omega (arith, below)))

@@ -1,5 +1,5 @@
 -- The induction that a call in a term suggests.
-use Rattle.std.proofs.Common.{◌≡◌, ◌∙◌, Bool, true, false, zero, List, [], ◌∷◌, ◌++◌, sym, ap, subst, inl, inr, lit<}
+use Rattle.std.proofs.Common.{◌≡◌, ◌∙◌, ◌<◌, Bool, true, false, zero, List, [], ◌∷◌, ◌++◌, sym, ap, subst, inl, inr}
 use Rattle.std.specs.Prelude.{Option, Some, None, if◌then◌else◌, bytes_eq}
 use Rattle.nq_logic.specs.Terms.{Name, Term, IsAmong, substituted}
 use Rattle.nq_logic.specs.Words.{call1}
@@ -9,7 +9,6 @@ use Rattle.nq_logic.specs.Ground.{symbols_of, ground_definitions, ground_history
 use Rattle.nq_logic.specs.Names.{has_name}
 use Rattle.nq_logic.specs.Admissible.{Call, calls_of, matched}
 use Rattle.nq_logic.specs.Derivations.{Derivable}
-use Rattle.nq_logic.proofs.Lists.{among_left}
 use Rattle.nq_logic.proofs.Symbols.{ordinalp_symbol}
 use Rattle.nq_logic.proofs.Clauses.{instance_law}
 use Rattle.nq_kernel.specs.Ready.{IsReady}
@@ -17,9 +16,10 @@ use Rattle.nq_kernel.proofs.EntryLemmas.{definitions_join}
 use Rattle.nq_events.specs.Events.{Hints}
 use Rattle.nq_events.specs.Inductions.{head_of, definition_among, definition_if, opened_by, arguments_of, suggests_by, suggests_of, suggests_induction}
 use Rattle.nq_goals.specs.declared.kinds.MoveKind.TheVariants.{Ind}
-use Rattle.nq_goals.specs.Replacing.{parts_in, parts_in_all}
-use Rattle.nq_goals.specs.Inducting.{IsScheme, suggesting_among, suggesting_in, scheme_calls, hinted_or, hinted_term, base_case, step_case}
-use Rattle.nq_goals.specs.Moves.{IsMove, inducts, no_candidate}
+use Rattle.nq_goals.specs.Paths.{Above, inducted_goals, inductions}
+use Rattle.nq_goals.specs.Replacing.{parts_in_all}
+use Rattle.nq_goals.specs.Inducting.{IsScheme, suggesting_among, suggesting_in, scheme_calls, hinted_or, hinted_term, base_case, step_case, claim_of}
+use Rattle.nq_goals.specs.Moves.{IsMove, IsSubsumed, induction_limit, inducts, no_candidate}
 use Rattle.nq_tracer.specs.Falls.{Falls, left_out, DefinitionsFall}
 use Rattle.nq_tracer.specs.Cases.{IsSuggesting, CallsGiveCases, case_of}
 use Rattle.nq_tracer.specs.Leads.{IsInduction, IsDue}
@@ -53,7 +53,7 @@ suggesting_found h t (u ∷ ts) (inr m) e = by_test (suggests_induction h u) (su
     by_test true i = inr i
     by_test false i = i
 
-module _ (fall : DefinitionsFall) (give : CallsGiveCases) (h : History) (d : Definition) (m t p : Term) (ready : IsReady h) (suggesting : IsSuggesting h d m t) (kept : has_name d.function left_out ≡ false) (part : IsAmong t (parts_in p)) where
+module _ (fall : DefinitionsFall) (give : CallsGiveCases) (h : History) (d : Definition) (m t : Term) (goal : List Term) (ready : IsReady h) (suggesting : IsSuggesting h d m t) (kept : has_name d.function left_out ≡ false) (part : IsAmong t (parts_in_all goal)) where
   falls : Falls h d m
   falls = fall h d m ready (opened_among h t d suggesting.opened) suggesting.measure kept
 
@@ -63,8 +63,8 @@ module _ (fall : DefinitionsFall) (give : CallsGiveCases) (h : History) (d : Def
       ∙ ap (λ (o : Option Term). suggests_by d o (arguments_of t)) suggesting.measure
       ∙ suggesting.suggests
 
-  here_among : IsAmong t (suggesting_in h (p ∷ []))
-  here_among = suggesting_found h t (parts_in_all (p ∷ [])) (among_left t (parts_in p) [] part) suggests
+  here_among : IsAmong t (suggesting_in h goal)
+  here_among = suggesting_found h t (parts_in_all goal) part suggests
 
   abbrev at_call : Term
   at_call = substituted (matched d.formals (arguments_of t)) m
@@ -74,20 +74,24 @@ module _ (fall : DefinitionsFall) (give : CallsGiveCases) (h : History) (d : Def
       instance_law h (matched d.formals (arguments_of t)) (call1 "ORDINALP" m ∷ []) falls.ordinal
       ((ordinalp_symbol h, instance_over (symbols_of h) (matched d.formals (arguments_of t)) (matched_over (symbols_of h) d.formals (arguments_of t) suggesting.over) m zero falls.over), tt)
 
-  pub induction_by : (c : Call) → IsAmong c (calls_of d.function d.body) → (base step : Term) → base ≡ base_case p (case_of d m (arguments_of t) c ∷ []) → step ≡ step_case p (case_of d m (arguments_of t) c) → IsInduction h p base step
-  induction_by c among base step base_is step_is = record {
+  pub induction_by : (c : Call) → IsAmong c (calls_of d.function d.body) → (p base step : Term) → p ≡ claim_of goal → base ≡ base_case p (case_of d m (arguments_of t) c ∷ []) → step ≡ step_case p (case_of d m (arguments_of t) c) → IsInduction h goal base step
+  induction_by c among p base step claim base_is step_is = record {
     scheme = record { measure = at_call; cases = case_of d m (arguments_of t) c ∷ [] };
-    suggested = record { ordinal = ordinal; some_case = λ e. cc; cases = (give h d m t c (suggesting_in h (p ∷ [])) suggesting falls among here_among, tt) };
-    next = ap (λ (x : Term). (x ∷ []) ∷ (step ∷ []) ∷ []) base_is ∙ ap (λ (x : Term). (base_case p (case_of d m (arguments_of t) c ∷ []) ∷ []) ∷ (x ∷ []) ∷ []) step_is;
+    suggested = record { ordinal = ordinal; some_case = λ e. cc; cases = (give h d m t c (suggesting_in h goal) suggesting falls among here_among, tt) };
+    next =
+        ap (λ (x : Term). (x ∷ []) ∷ (step ∷ []) ∷ []) (base_is ∙ ap (λ (q : Term). base_case q (case_of d m (arguments_of t) c ∷ [])) claim)
+        ∙ ap (λ (x : Term). (base_case (claim_of goal) (case_of d m (arguments_of t) c ∷ []) ∷ []) ∷ (x ∷ []) ∷ []) (step_is ∙ ap (λ (q : Term). step_case q (case_of d m (arguments_of t) c)) claim);
   }
 
 -- ---- the move
 
-own_calls : (h : History) (hints : Hints) (goal : List Term) → hints.induct ≡ None → scheme_calls h hints [] goal ≡ suggesting_in h goal
-own_calls h hints goal none = ap (λ (o : Option Term). hinted_or (suggesting_among h (hinted_term o [])) (suggesting_in h goal)) none
+own_calls : (h : History) (hints : Hints) (above : Above) (goal : List Term) → hints.induct ≡ None → scheme_calls h hints above goal ≡ suggesting_in h goal
+own_calls h hints above goal none = ap (λ (o : Option Term). hinted_or (suggesting_among h (hinted_term o (inducted_goals above))) (suggesting_in h goal)) none
 
-pub induction_moves : (h : History) (hints : Hints) (p base step : Term) → IsDue h hints (p ∷ []) → IsInduction h p base step → IsMove h hints [] Ind (p ∷ []) ((base ∷ []) ∷ (step ∷ []) ∷ [])
-induction_moves h hints p base step due induction =
-    inducts (p ∷ []) ((base ∷ []) ∷ (step ∷ []) ∷ []) due.normal
-    (record { allowed = due.hints_free.allowed; due = no_candidate due.none; no_loop = λ s. s.inducted; not_deep = lit< tt })
-    (record { scheme = induction.scheme; suggested = subst (λ (calls : List Term). IsScheme h calls induction.scheme) (sym (own_calls h hints (p ∷ []) due.hints_free.free)) induction.suggested; next = induction.next })
+-- an induction on a goal that is due under the goals above it is a move
+pub induction_moves : (h : History) (hints : Hints) (above : Above) (goal : List Term) (base step : Term) → IsDue h hints goal → (IsSubsumed above goal → ⊥) → inductions above < induction_limit → IsInduction h goal base step
+    → IsMove h hints above Ind goal ((base ∷ []) ∷ (step ∷ []) ∷ [])
+induction_moves h hints above goal base step due no_loop not_deep induction =
+    inducts goal ((base ∷ []) ∷ (step ∷ []) ∷ []) due.normal
+    (record { allowed = due.hints_free.allowed; due = no_candidate due.none; no_loop = no_loop; not_deep = not_deep })
+    (record { scheme = induction.scheme; suggested = subst (λ (calls : List Term). IsScheme h calls induction.scheme) (sym (own_calls h hints above goal due.hints_free.free)) induction.suggested; next = induction.next })

@@ -1,6 +1,6 @@
 -- What a call leads to, over a bank.
-use Rattle.std.proofs.Common.{◌≡◌, ◌∙◌, ◌<◌, ◌≤◌, true, ℕ, zero, suc, List, [], ◌∷◌, length, get_or, refl, sym, ap, ap₂, subst, inl, arith}
-use Rattle.std.specs.Prelude.{Option, Some, None, IfSome}
+use Rattle.std.proofs.Common.{◌≡◌, ◌∙◌, ◌<◌, ◌≤◌, true, ℕ, zero, suc, List, [], ◌∷◌, length, get_or, refl, sym, ap, ap₂, subst, inl, inr, arith}
+use Rattle.std.specs.Prelude.{All, Option, Some, None, IfSome}
 use Rattle.std.specs.Option.{option_map}
 use Rattle.std.proofs.lemmas.List.{length-map}
 use Rattle.nq_logic.specs.Terms.{Name, Term, IsAmong, Substitution}
@@ -8,11 +8,13 @@ use Rattle.nq_logic.specs.Histories.{History}
 use Rattle.nq_logic.specs.Ground.{symbols_of}
 use Rattle.nq_logic.specs.Laws.{InductionCase}
 use Rattle.nq_logic.specs.Admissible.{Call, calls_of, matched}
+use Rattle.nq_logic.proofs.Lists.{among_left, among_right}
 use Rattle.nq_bank.specs.declared.node.TermId.{TermId}
 use Rattle.nq_bank.specs.Content.{Content, Grows, Stands, IsIdOf, text_at, term_at, terms_at}
 use Rattle.nq_bank.specs.Parts.{parts_of}
 use Rattle.nq_bank.specs.Shells.{texts_at}
 use Rattle.nq_bank.proofs.Growth.{term_at-grown}
+use Rattle.nq_bank.proofs.NodesLemmas.{All-head, All-tail}
 use Rattle.nq_calls.specs.declared.calls.Site.{Site}
 use Rattle.nq_calls.specs.Calls.{site_at, sites_at}
 use Rattle.nq_history.specs.declared.entry.Entry.{Entry}
@@ -23,12 +25,13 @@ use Rattle.nq_events.specs.Inductions.{opened_by, arguments_of, suggests_by}
 use Rattle.nq_event.specs.declared.definitions.Definition.{Definition}
 use Rattle.nq_event.specs.Definitions.{definition_at}
 use Rattle.nq_event.proofs.DefinitionLemmas.{arguments_call}
-use Rattle.nq_goals.specs.Inducting.{base_case, step_case}
+use Rattle.nq_goals.specs.Inducting.{base_case, step_case, claim_of}
+use Rattle.nq_goals.specs.Replacing.{parts_in, parts_in_all}
 use Rattle.nq_tracer.specs.Falls.{DefinitionsFall}
 use Rattle.nq_tracer.specs.Cases.{case_by, case_of, CallsGiveCases, IsSuggesting}
 use Rattle.nq_tracer.specs.declared.drafts.Draft.{Draft}
 use Rattle.nq_tracer.specs.declared.nexts.Nexts.{Nexts}
-use Rattle.nq_tracer.specs.Leads.{draft_at, IsInduction, IsPartAt, IsSuggestedBy, LeadsBy, LeadsFrom}
+use Rattle.nq_tracer.specs.Leads.{draft_at, IsInduction, IsPartIn, IsSuggestedBy, LeadsBy, LeadsFrom}
 use Rattle.nq_tracer.proofs.PartLemmas.{part_over, arguments_over}
 use Rattle.nq_tracer.proofs.LeadLemmas.{induction_by}
 
@@ -61,12 +64,23 @@ leads_by old b2 d m p arguments sites (x ∷ all) here n some same calls here_is
       step = (from x).step ∙ ap (λ (c : InductionCase). step_case p c) case_is;
     }
 
+-- what stands in a literal stands in the goal
+part_in_all : (bank : Content) (ids : List TermId) (literal : TermId) (u : Term) → IsAmong literal ids → IsAmong u (parts_in (term_at bank literal)) → IsAmong u (parts_in_all (terms_at bank ids))
+part_in_all bank [] literal u m i = absurd m
+part_in_all bank (x ∷ ids) literal u (inl e) i = among_left u (parts_in (term_at bank x)) (parts_in_all (terms_at bank ids)) (subst (λ (y : TermId). IsAmong u (parts_in (term_at bank y))) e i)
+part_in_all bank (x ∷ ids) literal u (inr m) i = among_right u (parts_in (term_at bank x)) (parts_in_all (terms_at bank ids)) (part_in_all bank ids literal u m i)
+
+all_at : (P : TermId → Type 0) (ids : List TermId) (literal : TermId) → IsAmong literal ids → All P ids → P literal
+all_at P [] literal m k = absurd m
+all_at P (x ∷ ids) literal (inl e) k = subst P (sym e) (All-head P x ids k)
+all_at P (x ∷ ids) literal (inr m) k = all_at P ids literal m (All-tail P x ids k)
+
 -- so they are those of an induction that the call suggests
-pub leads_on : DefinitionsFall → CallsGiveCases → (bank new : Content) (history : List Entry) (p t : TermId) (d : Definition) (measure : TermId) (arguments : List TermId) (n : Nexts) (o : Option Definition) → IsReady (events_at bank history)
-    → TermIsIn bank history p → IsPartAt bank p t → option_map (definition_at bank) o ≡ opened_by (events_at bank history) (term_at bank t) → o ≡ Some d → d.measure ≡ Some measure → terms_at bank arguments ≡ parts_of (term_at bank t)
+pub leads_on : DefinitionsFall → CallsGiveCases → (bank new : Content) (history : List Entry) (goal : List TermId) (p t : TermId) (d : Definition) (measure : TermId) (arguments : List TermId) (n : Nexts) (o : Option Definition) → IsReady (events_at bank history)
+    → All (TermIsIn bank history) goal → IsIdOf bank p (claim_of (terms_at bank goal)) → IsPartIn bank goal t → option_map (definition_at bank) o ≡ opened_by (events_at bank history) (term_at bank t) → o ≡ Some d → d.measure ≡ Some measure → terms_at bank arguments ≡ parts_of (term_at bank t)
     → IsSuggestedBy bank d measure t arguments → LeadsBy (definition_at bank d) (term_at bank measure) (terms_at bank arguments) (term_at bank p) new n
-    → IsInduction (events_at bank history) (term_at bank p) (term_at new n.base) (term_at new n.step)
-leads_on fall give bank new history p t d measure arguments n o ready over part opened found measured parts suggested leads =
+    → IsInduction (events_at bank history) (terms_at bank goal) (term_at new n.base) (term_at new n.step)
+leads_on fall give bank new history goal p t d measure arguments n o ready over claim part opened found measured parts suggested leads =
     let h : History = events_at bank history in
     let whole : Term = term_at bank t in
     let own : terms_at bank arguments ≡ arguments_of whole = parts ∙ sym (arguments_call whole suggested.call) in
@@ -76,9 +90,10 @@ leads_on fall give bank new history p t d measure arguments n o ready over part 
       measure = ap (option_map (term_at bank)) measured;
       suggests = subst (λ (ts : List Term). suggests_by (definition_at bank d) (Some (term_at bank measure)) ts ≡ true) own suggested.suggests;
       count = ap length (sym own) ∙ length-map arguments (term_at bank) ∙ suggested.count ∙ sym (length-map d.formals.now (text_at bank));
-      over = arguments_over (symbols_of h) whole (part_over (symbols_of h) (term_at bank p) whole over.over part.among);
+      over = arguments_over (symbols_of h) whole (part_over (symbols_of h) (term_at bank part.literal) whole (all_at (TermIsIn bank history) goal part.literal part.among over).over part.part.among);
     } in
-    induction_by fall give h (definition_at bank d) (term_at bank measure) whole (term_at bank p) ready suggesting suggested.usable.kept part.among there.call there.among (term_at new n.base) (term_at new n.step) there.base there.step
+    induction_by fall give h (definition_at bank d) (term_at bank measure) whole (terms_at bank goal) ready suggesting suggested.usable.kept (part_in_all bank goal part.literal whole part.among part.part.among) there.call there.among (term_at bank p)
+    (term_at new n.base) (term_at new n.step) claim.denotes there.base there.step
 
 -- an element that is there does not depend on what stands for none
 pub site_other : (sites : List Site) (i : ℕ) (site d : Site) → i < length sites → site ≡ get_or sites i site → site ≡ get_or sites i d
@@ -90,10 +105,10 @@ site_other sites i site d below is = is ∙ same sites i below
     same (x ∷ xs) (suc k) h = same xs k (omega (arith, h))
 
 -- the same of what may be found
-pub leads_on_found : DefinitionsFall → CallsGiveCases → (bank new : Content) (history : List Entry) (p t : TermId) (d : Definition) (measure : TermId) (arguments : List TermId) (found : Option Nexts) (o : Option Definition) → IsReady (events_at bank history)
-    → TermIsIn bank history p → IsPartAt bank p t → option_map (definition_at bank) o ≡ opened_by (events_at bank history) (term_at bank t) → o ≡ Some d → d.measure ≡ Some measure → terms_at bank arguments ≡ parts_of (term_at bank t)
+pub leads_on_found : DefinitionsFall → CallsGiveCases → (bank new : Content) (history : List Entry) (goal : List TermId) (p t : TermId) (d : Definition) (measure : TermId) (arguments : List TermId) (found : Option Nexts) (o : Option Definition) → IsReady (events_at bank history)
+    → All (TermIsIn bank history) goal → IsIdOf bank p (claim_of (terms_at bank goal)) → IsPartIn bank goal t → option_map (definition_at bank) o ≡ opened_by (events_at bank history) (term_at bank t) → o ≡ Some d → d.measure ≡ Some measure → terms_at bank arguments ≡ parts_of (term_at bank t)
     → IsSuggestedBy bank d measure t arguments → IfSome found (LeadsBy (definition_at bank d) (term_at bank measure) (terms_at bank arguments) (term_at bank p) new)
-    → IfSome found (λ n. IsInduction (events_at bank history) (term_at bank p) (term_at new n.base) (term_at new n.step))
-leads_on_found fall give bank new history p t d measure arguments None o ready over part opened found measured parts suggested leads = tt
-leads_on_found fall give bank new history p t d measure arguments (Some n) o ready over part opened found measured parts suggested leads =
-    leads_on fall give bank new history p t d measure arguments n o ready over part opened found measured parts suggested leads
+    → IfSome found (λ n. IsInduction (events_at bank history) (terms_at bank goal) (term_at new n.base) (term_at new n.step))
+leads_on_found fall give bank new history goal p t d measure arguments None o ready over claim part opened found measured parts suggested leads = tt
+leads_on_found fall give bank new history goal p t d measure arguments (Some n) o ready over claim part opened found measured parts suggested leads =
+    leads_on fall give bank new history goal p t d measure arguments n o ready over claim part opened found measured parts suggested leads

@@ -15,3 +15,4 @@ pub mod NextLemmas
 pub mod LeadSteps
 pub mod FoundLemmas
 pub mod MoveSteps
+pub mod ClaimLemmas

@@ -37,11 +37,17 @@ pub record IsPartAt (bank : Content) (whole t : TermId) : Type 0 where
   pub stands : Stands bank t
   pub among : IsAmong (term_at bank t) (parts_in (term_at bank whole))
 
--- these two are the goals of an induction on the term by a scheme that its calls suggest
-pub record IsInduction (h : History) (p base step : Term) : Type 0 where
+-- the term stands in a literal of the goal, perhaps as itself
+pub record IsPartIn (bank : Content) (goal : List TermId) (t : TermId) : Type 0 where
+  pub literal : TermId
+  pub among : IsAmong literal goal
+  pub part : IsPartAt bank literal t
+
+-- these two are the goals of an induction on the goal by a scheme that its calls suggest
+pub record IsInduction (h : History) (goal : List Term) (base step : Term) : Type 0 where
   pub scheme : Scheme
-  pub suggested : IsScheme h (suggesting_in h (p ∷ [])) scheme
-  pub next : (base ∷ []) ∷ (step ∷ []) ∷ [] ≡ goals_of_scheme (p ∷ []) scheme
+  pub suggested : IsScheme h (suggesting_in h goal) scheme
+  pub next : (base ∷ []) ∷ (step ∷ []) ∷ [] ≡ goals_of_scheme goal scheme
 
 pub record NextsStand (bank : Content) (n : Nexts) : Type 0 where
   pub base : Stands bank n.base

@@ -1,8 +1,8 @@
 //! A call in a term that may suggest an induction.
-ghost use Rattle.std.specs.Prelude.{IfOk, IfSome};
+ghost use Rattle.std.specs.Prelude.{All, IfOk, IfSome};
 ghost use Rattle.nq_bank.specs.Content.{Stands};
 ghost use Rattle.nq_history.specs.Events.{HistoryStands};
-ghost use Rattle.nq_tracer.specs.Leads.{IsPartAt};
+ghost use Rattle.nq_tracer.specs.Leads.{IsPartAt, IsPartIn};
 
 use nq_bank::{Bank, TermId};
 use nq_event::{are_distinct_variables, definition_called, measured};
@@ -43,4 +43,23 @@ pub fn found_in(bank: &Bank, history: &History, t: TermId) -> Result<Option<Term
     } else {
         Ok(None)
     }
+}
+
+/// The same within the literals of a goal.
+pub fn found_among(
+    bank: &Bank,
+    history: &History,
+    goal: &[TermId],
+) -> Result<Option<TermId>, AllocError>
+    requires history { HistoryStands bank.now history.now }
+    requires goal { All (Stands bank.now) goal.now }
+    ensures { IfOk result (λ found. IfSome found (IsPartIn bank.now goal.now)) }
+{
+    for i in 0..goal.len() {
+        let found = found_in(bank, history, goal[i])?;
+        if let Some(u) = found {
+            return Ok(Some(u));
+        }
+    }
+    Ok(None)
 }

@@ -1,16 +1,18 @@
 //! An induction from a goal, where only an induction leads on.
 ghost use Rattle.std.specs.Prelude.{◌≡◌, ◌∷◌, [], All, IfOk, IfSome, true};
-ghost use Rattle.nq_bank.specs.Content.{Content, Grows, Stands, term_at, terms_at};
+ghost use Rattle.nq_bank.specs.Content.{Content, Grows, IsIdOf, Stands, term_at, terms_at};
 ghost use Rattle.nq_history.specs.Events.{HistoryStands, events_at};
 ghost use Rattle.nq_history.specs.Hints.{HintsStand};
 ghost use Rattle.nq_kernel.specs.Over.{TermIsIn};
 ghost use Rattle.nq_kernel.specs.Ready.{IsReady};
 ghost use Rattle.nq_event.specs.EventsAt.{hints_at};
+ghost use Rattle.nq_goals.specs.Inducting.{claim_of};
 ghost use Rattle.nq_goals.specs.Moves.{IsMove};
 ghost use Rattle.nq_goals.specs.declared.kinds.MoveKind.TheVariants.{Ind};
 ghost use Rattle.nq_tracer.specs.Leads.{IsDue, IsFree, IsInduction, NextsStand};
 
-use crate::finding::found_in;
+use crate::claims::claim_of;
+use crate::finding::found_among;
 use crate::leading::lead_by;
 use crate::nexts::Nexts;
 use nq_bank::{Bank, BankFault, TermId};
@@ -46,22 +48,28 @@ fn is_due(
     is_left_to_induction(bank, history, hints, goal)
 }
 
-/// The goals of an induction on a term.
-fn induct_on(bank: &mut Bank, history: &History, p: TermId) -> Result<Option<Nexts>, AllocError>
+/// The goals of an induction on the claim of a goal.
+fn induct_claim(
+    bank: &mut Bank,
+    history: &History,
+    goal: &[TermId],
+    p: TermId,
+) -> Result<Option<Nexts>, AllocError>
     requires history { HistoryStands bank.old history.now }
     requires ready { IsReady (events_at bank.old history.now) }
-    requires claim { Stands bank.old p }
-    requires over { TermIsIn bank.old history.now p }
-    ensures leads { IfOk result (λ found. IfSome found (λ n. IsInduction (events_at bank.old history.now) (term_at bank.old p) (term_at bank.new n.base) (term_at bank.new n.step))) }
+    requires goal { All (Stands bank.old) goal.now }
+    requires over { All (TermIsIn bank.old history.now) goal.now }
+    requires claim { IsIdOf bank.old p (claim_of (terms_at bank.old goal.now)) }
+    ensures leads { IfOk result (λ found. IfSome found (λ n. IsInduction (events_at bank.old history.now) (terms_at bank.old goal.now) (term_at bank.new n.base) (term_at bank.new n.step))) }
     ensures stand { IfOk result (λ found. IfSome found (NextsStand bank.new)) }
     ensures grows { Grows bank.old bank.new }
 {
     if bank.size(p) > SIZE_LIMIT {
         return Ok(None);
     }
-    let found = found_in(bank, history, p)?;
+    let found = found_among(bank, history, goal)?;
     match found {
-        Some(t) => match lead_by(bank, history, p, t) {
+        Some(t) => match lead_by(bank, history, goal, p, t) {
             Ok(nexts) => Ok(nexts),
             Err(BankFault::Deep) => Ok(None),
             Err(_) => Err(AllocError),
@@ -70,7 +78,31 @@ fn induct_on(bank: &mut Bank, history: &History, p: TermId) -> Result<Option<Nex
     }
 }
 
-/// The goals of a legal induction from a first goal of one literal; there may be none.
+/// The goals of an induction by one case that a call in a goal suggests; there may be none.
+pub fn induct_on(
+    bank: &mut Bank,
+    history: &History,
+    goal: &[TermId],
+) -> Result<Option<Nexts>, AllocError>
+    requires history { HistoryStands bank.old history.now }
+    requires ready { IsReady (events_at bank.old history.now) }
+    requires goal { All (Stands bank.old) goal.now }
+    requires over { All (TermIsIn bank.old history.now) goal.now }
+    ensures leads { IfOk result (λ found. IfSome found (λ n. IsInduction (events_at bank.old history.now) (terms_at bank.old goal.now) (term_at bank.new n.base) (term_at bank.new n.step))) }
+    ensures stand { IfOk result (λ found. IfSome found (NextsStand bank.new)) }
+    ensures grows { Grows bank.old bank.new }
+{
+    if goal.is_empty() {
+        return Ok(None);
+    }
+    match claim_of(bank, goal) {
+        Ok(p) => induct_claim(bank, history, goal, p),
+        Err(BankFault::Deep) => Ok(None),
+        Err(_) => Err(AllocError),
+    }
+}
+
+/// The goals of a legal induction from a first goal; there may be none.
 pub fn induction_from(
     bank: &mut Bank,
     history: &History,
@@ -86,14 +118,9 @@ pub fn induction_from(
     ensures stand { IfOk result (λ found. IfSome found (NextsStand bank.new)) }
     ensures grows { Grows bank.old bank.new }
 {
-    match goal {
-        [p] => {
-            if is_due(bank, history, hints, goal)? {
-                induct_on(bank, history, *p)
-            } else {
-                Ok(None)
-            }
-        }
-        _ => Ok(None),
+    if is_due(bank, history, hints, goal)? {
+        induct_on(bank, history, goal)
+    } else {
+        Ok(None)
     }
 }

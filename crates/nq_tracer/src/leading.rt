@@ -2,7 +2,7 @@
 ghost use Rattle.std.specs.Prelude.{◌≡◌, ◌<◌, All, get_or, length, IfOk, IfSome, None, Some, true};
 ghost use Rattle.nq_logic.specs.Histories as logic;
 ghost use Rattle.nq_logic.specs.Numerals.{number_of};
-ghost use Rattle.nq_bank.specs.Content.{Grows, IsNamed, Stands, term_at, terms_at, text_at};
+ghost use Rattle.nq_bank.specs.Content.{Grows, IsIdOf, IsNamed, Stands, term_at, terms_at, text_at};
 ghost use Rattle.nq_bank.specs.Parts.{parts_of};
 ghost use Rattle.nq_bank.specs.Shells.{texts_at};
 ghost use Rattle.nq_history.specs.Events.{HistoryStands, events_at};
@@ -14,7 +14,8 @@ ghost use Rattle.nq_calls.specs.Calls.{SiteStands, site_at, sites_at};
 ghost use Rattle.nq_calls.specs.Mentions.{IsApart};
 ghost use Rattle.nq_events.specs.Inductions.{suggests_by};
 ghost use Rattle.nq_event.specs.Definitions.{DefinitionStands, definition_at};
-ghost use Rattle.nq_tracer.specs.Leads.{IsInduction, IsPartAt, IsSuggestedBy, IsUsable, LeadsBy, LeadsFrom, NextsStand};
+ghost use Rattle.nq_goals.specs.Inducting.{claim_of};
+ghost use Rattle.nq_tracer.specs.Leads.{IsInduction, IsPartIn, IsSuggestedBy, IsUsable, LeadsBy, LeadsFrom, NextsStand};
 
 use crate::drafts::{draft_of, pairs_of};
 use crate::laws::{calls_give_cases, definitions_fall};
@@ -189,19 +190,20 @@ fn is_call(bank: &Bank, t: TermId) -> bool
     }
 }
 
-/// The goals of the induction that a call in a term suggests.
+/// The goals of the induction on the claim of a goal that a call in the goal suggests.
 pub fn lead_by(
     bank: &mut Bank,
     history: &History,
+    goal: &[TermId],
     p: TermId,
     t: TermId,
 ) -> Result<Option<Nexts>, BankFault>
     requires history { HistoryStands bank.old history.now }
     requires ready { IsReady (events_at bank.old history.now) }
-    requires claim { Stands bank.old p }
-    requires over { TermIsIn bank.old history.now p }
-    requires part { IsPartAt bank.old p t }
-    ensures leads { IfOk result (λ found. IfSome found (λ n. IsInduction (events_at bank.old history.now) (term_at bank.old p) (term_at bank.new n.base) (term_at bank.new n.step))) }
+    requires over { All (TermIsIn bank.old history.now) goal.now }
+    requires claim { IsIdOf bank.old p (claim_of (terms_at bank.old goal.now)) }
+    requires part { IsPartIn bank.old goal.now t }
+    ensures leads { IfOk result (λ found. IfSome found (λ n. IsInduction (events_at bank.old history.now) (terms_at bank.old goal.now) (term_at bank.new n.base) (term_at bank.new n.step))) }
     ensures stand { IfOk result (λ found. IfSome found (NextsStand bank.new)) }
     ensures grows { Grows bank.old bank.new }
 {

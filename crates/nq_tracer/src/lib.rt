@@ -11,6 +11,7 @@ mod terms;
 mod tests;
 
 // the goals of an induction, by a call that suggests it
+mod claims;
 mod finding;
 mod leading;
 mod nexts;
@@ -21,6 +22,6 @@ mod induction;
 // laws of schemes
 mod laws;
 
-pub use induction::induction_from;
+pub use induction::{induct_on, induction_from};
 pub use laws::{calls_give_cases, definitions_fall};
 pub use nexts::Nexts;

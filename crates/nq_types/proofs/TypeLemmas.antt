@@ -12,6 +12,7 @@ use Rattle.nq_history.proofs.HistoryLemmas.{events_at-grown}
 use Rattle.nq_kernel.specs.declared.work.Work.{Work}
 use Rattle.nq_kernel.specs.declared.work.Stop.{Stop}
 use Rattle.nq_kernel.specs.Growing.{LineStands, WorkGrows, WorkStands}
+use Rattle.nq_kernel.specs.Ready.{IsReady}
 use Rattle.nq_lines.specs.Lines.{IsTermIn, LineHasOnly}
 use Rattle.nq_lines.proofs.LineLemmas.{only_stands}
 use Rattle.nq_lines.proofs.TermLemmas.{same_term_grown, term_grown}
@@ -31,6 +32,9 @@ module _ (history : List Entry) (old one : Work) (stands : WorkStands history ol
 
   pub room_grown : length (shells_of (events_at old.bank history)) ≤ 61 → length (shells_of (events_at one.bank history)) ≤ 61
   room_grown room = subst (λ h. length (shells_of h) ≤ 61) (sym same_events) room
+
+  pub ready_grown : IsReady (events_at old.bank history) → IsReady (events_at one.bank history)
+  ready_grown ready = subst IsReady (sym same_events) ready
 
   pub shown_before : (new : Work) (assumed : List TermId) (t : TermId) (r : Result (TypeSet × ℕ) Stop) → All (IsTermIn history old) assumed → IsTermIn history old t → IfOk r (IsShown (events_at one.bank history) new (terms_at one.bank assumed) (term_at one.bank t)) → IfOk r (IsShown (events_at old.bank history) new (terms_at old.bank assumed) (term_at old.bank t))
   shown_before new assumed t r each there h =

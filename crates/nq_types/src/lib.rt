@@ -22,9 +22,18 @@ mod making;
 // the types of these
 mod exact;
 
-// whether a line shows a type, and lines that may
-mod guessing;
+// whether a line shows a type
 mod judging;
+
+// lines that may: rows and rules at terms, what assumptions tell, and what functions give
+mod assumptions;
+mod functions;
+mod guessing;
+mod numbers;
+mod prescriptions;
+mod replacing;
+mod rows;
+mod truths;
 
 // the type of any term
 mod types;

@@ -131,6 +131,7 @@ fn guessed_type(
     t: TermId,
 ) -> Result<(TypeSet, u64), Stop>
     requires stands { WorkStands history.now work.old }
+    requires ready { IsReady (events_at work.old.bank history.now) }
     requires room { length (shells_of (events_at work.old.bank history.now)) ≤ 61 }
     requires assumed { All (IsTermIn history.now work.old) assumed.now }
     requires term { IsTermIn history.now work.old t }

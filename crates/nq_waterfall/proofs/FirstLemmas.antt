@@ -12,7 +12,7 @@ use Rattle.nq_goals.specs.Trees.{IsGoalAt, at_first, IsFailureTree}
 use Rattle.nq_goals.proofs.SolverLaws.{solver_laws}
 use Rattle.nq_waterfall.specs.Kinds.{goal_cause}
 use Rattle.nq_waterfall.specs.declared.trail.Trail.{Trail}
-use Rattle.nq_normal.specs.Definitions.{hints_at}
+use Rattle.nq_event.specs.EventsAt.{hints_at}
 use Rattle.nq_waterfall.specs.Trails.{above_at, steps_at}
 use Rattle.nq_traces.specs.Traces.{IsTrace}
 use Rattle.nq_waterfall.specs.Solved.{LeavesAt, TrailGoesOn}

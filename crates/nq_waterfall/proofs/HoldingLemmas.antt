@@ -16,7 +16,7 @@ use Rattle.nq_kernel.specs.ReadyLaws.{ReadyGrown, GrownWorkHolds}
 use Rattle.nq_lines.specs.Lines.{IsTermIn, LineHasOnly}
 use Rattle.nq_waterfall.specs.Ready.{IsGoalIn, HoldingLaws}
 
-goal_over : (history : List Entry) (work : Work) (goal : List TermId) → IsGoalIn history work goal → IsClause (events_at work.bank history) (terms_at work.bank goal)
+pub goal_over : (history : List Entry) (work : Work) (goal : List TermId) → IsGoalIn history work goal → IsClause (events_at work.bank history) (terms_at work.bank goal)
 goal_over history work [] h = tt
 goal_over history work (t ∷ goal) h = ((All-head (IsTermIn history work) t goal h).over.over, goal_over history work goal (All-tail (IsTermIn history work) t goal h))
 

@@ -38,7 +38,7 @@ use Rattle.nq_waterfall.specs.Kinds.{goal_kind}
 use Rattle.nq_waterfall.specs.declared.trail.Ancestor.{Ancestor}
 use Rattle.nq_kernel.specs.declared.verdict.PathStep.{PathStep}
 use Rattle.nq_waterfall.specs.declared.trail.Trail.{Trail}
-use Rattle.nq_normal.specs.Definitions.{pair_at, instance_at, hints_at}
+use Rattle.nq_event.specs.EventsAt.{pair_at, instance_at, hints_at}
 use Rattle.nq_waterfall.specs.Trails.{goals_at, passed_at, above_onto, above_at, steps_at, AncestorStands, StepStands, TrailStands}
 use Rattle.nq_waterfall.specs.Ready.{CanMove, IsGoalIn, HoldingLaws}
 

@@ -35,7 +35,7 @@ use Rattle.nq_waterfall.specs.declared.trail.Trail.{Trail}
 use Rattle.nq_waterfall.specs.declared.solving.Solved.{Solved}
 use Rattle.nq_waterfall.specs.declared.solving.Solved.TheVariants.{Proved, Unsolved}
 use Rattle.nq_waterfall.specs.declared.solving.Tried.{Tried}
-use Rattle.nq_normal.specs.Definitions.{hints_at}
+use Rattle.nq_event.specs.EventsAt.{hints_at}
 use Rattle.nq_waterfall.specs.Trails.{goals_at, passed_at, above_onto, above_at, steps_at, step_at, AncestorStands, StepStands, TrailStands, IsWithAncestor, IsWithStep}
 use Rattle.nq_waterfall.specs.Ready.{CanMove, IsGoalIn, HoldingLaws}
 use Rattle.nq_traces.specs.Traces.{IsOneOf, TraceGoesOn}

@@ -23,7 +23,7 @@ use Rattle.nq_lines.proofs.TermLemmas.{term_grown}
 use Rattle.nq_goals.specs.Hints.{denied_instances, denied_before, first_goal}
 use Rattle.nq_waterfall.specs.declared.uses.Used.{Used}
 use Rattle.nq_waterfall.specs.Uses.{UseStands, IsUsed, denials_at, used_term, AreInstances, IsTraceOf}
-use Rattle.nq_normal.specs.Definitions.{hints_at}
+use Rattle.nq_event.specs.EventsAt.{hints_at}
 use Rattle.nq_waterfall.specs.Trails.{steps_at, StepStands}
 use Rattle.nq_kernel.specs.declared.verdict.PathStep.{PathStep}
 use Rattle.nq_waterfall.specs.declared.trail.Ancestor.{Ancestor}

@@ -22,7 +22,7 @@ use Rattle.nq_waterfall.specs.declared.trail.Trail.{Trail}
 use Rattle.nq_waterfall.specs.declared.solving.Tried.{Tried}
 use Rattle.nq_waterfall.specs.declared.solving.Solved.{Solved}
 use Rattle.nq_waterfall.specs.declared.solving.Solved.TheVariants.{Proved, Unsolved}
-use Rattle.nq_normal.specs.Definitions.{hints_at}
+use Rattle.nq_event.specs.EventsAt.{hints_at}
 use Rattle.nq_waterfall.specs.Trails.{goals_at, above_at, steps_at, TrailStands}
 use Rattle.nq_traces.specs.Traces.{TraceGoesOn}
 use Rattle.nq_waterfall.specs.Turns.{HaveLines}

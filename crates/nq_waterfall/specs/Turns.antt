@@ -18,8 +18,8 @@ use Rattle.nq_waterfall.specs.Kinds.{goal_kind, goal_cause}
 use Rattle.nq_waterfall.specs.declared.trail.Ancestor.{Ancestor}
 use Rattle.nq_waterfall.specs.declared.mover.Lead.{Lead}
 use Rattle.nq_waterfall.specs.declared.mover.Turn.{Turn}
-use Rattle.nq_waterfall.specs.declared.mover.Turn.TheVariants.{Led, Closed, Spent}
-use Rattle.nq_normal.specs.Definitions.{hints_at}
+use Rattle.nq_waterfall.specs.declared.mover.Turn.TheVariants.{Led, Closed, Spent, Unknown}
+use Rattle.nq_event.specs.EventsAt.{hints_at}
 use Rattle.nq_waterfall.specs.Trails.{goals_at, above_at}
 use Rattle.nq_waterfall.specs.Ready.{IsGoalIn}
 
@@ -38,12 +38,13 @@ pub record IsLead {Way : Type 0} (IsWay : List Entry → Work → List TermId �
   pub nexts_in : All (λ next. IsGoalIn history work next.items) lead.nexts.items
   pub way_back : (later : Work) → WorkGrows history work later → IsWay history later goal lead.nexts.items lead.way
 
--- a goal is led on, or closed by a line with only its literals, or left over
+-- a goal is led on, or closed by a line with only its literals, or left over; or nothing is told of it
 abbrev pub IsTurn : {Way : Type 0} (IsWay : List Entry → Work → List TermId → List (Vec TermId Global) → Way → Type 0) (history : List Entry) (hints : Hints) (work : Work) (path : List Ancestor)
     (goal : List TermId) → Turn Way → Type 0
 IsTurn IsWay history hints work path goal (Led lead) = IsLead IsWay history hints work path goal lead
 IsTurn IsWay history hints work path goal (Closed line) = LineHasOnly work line (terms_at work.bank goal)
 IsTurn IsWay history hints work path goal (Spent cause) = SpentAt work.bank history hints path goal cause
+IsTurn IsWay history hints work path goal Unknown = ⊤
 
 -- each line has only the literals of its goal
 abbrev pub HaveLines : Work → List Clause → List ℕ → Type 0

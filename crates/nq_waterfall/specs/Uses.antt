@@ -1,5 +1,5 @@
 -- Instances of events that hints name, and what is said of a lemma that has them.
-use Rattle.std.specs.Prelude.{◌≡◌, List, [], ◌∷◌, map, All, Option, Some}
+use Rattle.std.specs.Prelude.{◌≡◌, List, [], ◌∷◌, map, All, Option, Some, ⊤}
 use Rattle.nq_logic.specs.Terms.{Term}
 use Rattle.nq_logic.specs.Words.{not_term}
 use Rattle.nq_bank.specs.declared.node.TermId.{TermId}
@@ -17,8 +17,8 @@ use Rattle.nq_waterfall.specs.Kinds.{goal_cause}
 use Rattle.nq_waterfall.specs.declared.uses.Used.{Used}
 use Rattle.nq_kernel.specs.declared.verdict.PathStep.{PathStep}
 use Rattle.nq_waterfall.specs.declared.first.Outcome.{Outcome}
-use Rattle.nq_waterfall.specs.declared.first.Outcome.TheVariants.{Proved, Failed, OutOfSteps}
-use Rattle.nq_normal.specs.Definitions.{hints_at}
+use Rattle.nq_waterfall.specs.declared.first.Outcome.TheVariants.{Proved, Failed, OutOfSteps, Unknown}
+use Rattle.nq_event.specs.EventsAt.{hints_at}
 use Rattle.nq_waterfall.specs.Trails.{steps_at, StepStands}
 use Rattle.nq_traces.specs.Traces.{IsTrace}
 
@@ -51,7 +51,7 @@ IsTraceOf history hints work goal steps =
     IsTrace (events_at work.bank history) (hints_at work.bank hints) (first_goal (events_at work.bank history) (hints_at work.bank hints) (term_at work.bank goal)) (steps_at work.bank steps)
 
 -- A proof of a lemma has a line with only the lemma, and its steps are a trace from the first goal. A failure has a tree from the
--- first goal. Where steps ran out, the counter is at its limit.
+-- first goal. Where steps ran out, the counter is at its limit. Else nothing is told.
 abbrev pub IsAnswer : List Entry → Hints → Work → TermId → Outcome → Type 0
 IsAnswer history hints work goal (Proved line trace) =
     LineHasOnly work line (term_at work.bank goal ∷ []) × All (StepStands work.bank) trace.items × IsTraceOf history hints work goal trace.items
@@ -59,3 +59,4 @@ IsAnswer history hints work goal (Failed steps cause) =
     All (StepStands work.bank) steps.items
     × IsFailureTree (events_at work.bank history) (hints_at work.bank hints) (first_goal (events_at work.bank history) (hints_at work.bank hints) (term_at work.bank goal)) (steps_at work.bank steps.items) (goal_cause cause)
 IsAnswer history hints work goal OutOfSteps = work.counter.used ≡ work.counter.limit
+IsAnswer history hints work goal Unknown = ⊤

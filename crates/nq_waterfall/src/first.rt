@@ -4,12 +4,13 @@ ghost use Rattle.nq_kernel.specs.Growing.{WorkGrows};
 ghost use Rattle.nq_waterfall.specs.Ready.{CanMove, IsGoalIn};
 ghost use Rattle.nq_waterfall.specs.Outcomes.{IsOutcome, IsEmpty};
 
+use crate::halt::Halt;
 use crate::mover::Mover;
 use crate::solving::{Place, Solved, solve};
 use crate::trail::Trail;
 use nq_bank::TermId;
 use nq_history::{Hints, History};
-use nq_kernel::{Cause, PathStep, Stop, Work};
+use nq_kernel::{Cause, PathStep, Work};
 use std::alloc::{AllocError, Global};
 
 /// What became of a first goal.
@@ -21,6 +22,8 @@ pub enum Outcome {
     Failed(Vec<PathStep>, Cause),
     /// The counter is at its limit.
     OutOfSteps,
+    /// Nothing is told.
+    Unknown,
 }
 
 /// A trail on which there is nothing.
@@ -36,7 +39,7 @@ fn nothing(alloc: Global) -> Trail
 
 /// Solves a first goal. A proof has a line with only the goal's literals, and each of its steps is legal. A failure has a tree
 /// from the goal, whose cause is that of the goal left over with the least number. Steps run out only where the counter is at
-/// its limit.
+/// its limit. Nothing is told where the mover tells nothing of a goal, or keeps no way back of a move whose goals were all proved.
 pub fn solve_first<M: Mover>(
     work: &mut Work,
     mover: &mut M,
@@ -58,7 +61,8 @@ pub fn solve_first<M: Mover>(
     match solve(work, mover, history, hints, &mut trail, goal, place) {
         Ok(Solved::Proved(line)) => Ok(Outcome::Proved(line, trail.trace)),
         Ok(Solved::Unsolved(cause)) => Ok(Outcome::Failed(trail.steps, cause)),
-        Err(Stop::OutOfSteps) => Ok(Outcome::OutOfSteps),
-        Err(Stop::Memory) => Err(AllocError),
+        Err(Halt::OutOfSteps) => Ok(Outcome::OutOfSteps),
+        Err(Halt::Unknown) => Ok(Outcome::Unknown),
+        Err(Halt::Memory) => Err(AllocError),
     }
 }

@@ -8,6 +8,9 @@ mod trail;
 // what moves goals
 mod mover;
 
+// why goals are left
+mod halt;
+
 // goals solved depth first
 mod solving;
 
@@ -21,6 +24,7 @@ mod uses;
 pub mod laws;
 
 pub use first::{Outcome, solve_first};
+pub use halt::Halt;
 pub use mover::{Lead, Mover, Turn};
 pub use solving::{Place, Solved, solve};
 pub use trail::{Ancestor, Trail};

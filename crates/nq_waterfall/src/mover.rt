@@ -1,5 +1,5 @@
 //! What moves goals: one move at a time, and the way back from the lines of the goals to which it led.
-ghost use Rattle.std.specs.Prelude.{◌≡◌, List, All, IfOk, Err, Vec};
+ghost use Rattle.std.specs.Prelude.{◌≡◌, List, All, IfOk, IfSome, Err, Vec};
 ghost use Rattle.std.specs.declared.alloc.Global.{Global};
 ghost use Rattle.nq_bank.specs.declared.node.TermId.{TermId};
 ghost use Rattle.nq_bank.specs.Content.{terms_at};
@@ -36,6 +36,8 @@ pub enum Turn<W> {
     Closed(u64),
     /// It is left over for this cause.
     Spent(Cause),
+    /// Nothing is told of it: no legal move is known that leads it on, and not that there is none.
+    Unknown,
 }
 
 /// What moves goals.
@@ -62,7 +64,8 @@ pub trait Mover {
         ensures grows { WorkGrows history.now work.old work.new }
         ensures out { result ≡ Err Stop.OutOfSteps → work.new.counter.used ≡ work.new.counter.limit };
 
-    /// Makes a line with only literals of a goal from lines with only literals of the goals to which its move led.
+    /// Makes a line with only literals of a goal from lines with only literals of the goals to which its move led; none where
+    /// no way back is kept of the move.
     fn close(
         &mut self,
         work: &mut Work,
@@ -71,13 +74,13 @@ pub trait Mover {
         goal: &[TermId],
         lead: &Lead<Self::Way>,
         lines: &[u64],
-    ) -> Result<u64, Stop>
+    ) -> Result<Option<u64>, Stop>
         requires ready { CanMove history.now hints.now work.old }
         requires goal { IsGoalIn history.now work.old goal.now }
         requires nexts { All (λ next. IsGoalIn history.now work.old next.items) lead.now.nexts.items }
         requires way { is_way history.now work.old goal.now lead.now.nexts.items lead.now.way }
         requires lines { HaveLines work.old (goals_at work.old.bank lead.now.nexts.items) lines.now }
-        ensures line { IfOk result (λ n. LineHasOnly work.new n (terms_at work.new.bank goal.now)) }
+        ensures line { IfOk result (λ found. IfSome found (λ n. LineHasOnly work.new n (terms_at work.new.bank goal.now))) }
         ensures grows { WorkGrows history.now work.old work.new }
         ensures out { result ≡ Err Stop.OutOfSteps → work.new.counter.used ≡ work.new.counter.limit };
 }

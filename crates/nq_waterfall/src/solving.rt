@@ -8,6 +8,7 @@ ghost use Rattle.nq_waterfall.specs.Ready.{CanMove, IsGoalIn};
 ghost use Rattle.nq_waterfall.specs.Turns.{IsLead};
 ghost use Rattle.nq_waterfall.specs.Solved.{IsSolved, TrailGoesOn, IsNextSolved, NextGoesOn, TriedAt, AreClosed, IsNoted, IsCutBack};
 
+use crate::halt::Halt;
 use crate::laws::holding;
 use crate::mover::{Lead, Mover, Turn};
 use crate::trail::{Trail, add_step, cut_back, go_down, go_up};
@@ -98,7 +99,8 @@ fn enter(work: &mut Work, history: &History, depth: u32) -> Result<(), Stop>
     work.enter(depth)
 }
 
-/// Solves a goal depth first.
+/// Solves a goal depth first. It is left where nothing is told of a goal below it, or where no way back is kept of a move whose goals
+/// were all proved.
 #[cycle(solving)]
 pub fn solve<M: Mover>(
     work: &mut Work,
@@ -108,14 +110,14 @@ pub fn solve<M: Mover>(
     trail: &mut Trail,
     goal: &[TermId],
     place: Place,
-) -> Result<Solved, Stop>
+) -> Result<Solved, Halt>
     requires ready { CanMove history.now hints.now work.old }
     requires trail { TrailStands work.old.bank trail.old }
     requires goal { IsGoalIn history.now work.old goal.now }
     ensures solved { IfOk result (IsSolved history.now hints.now work.new trail.old trail.new goal.now place.number) }
     ensures trail { OnOk result (TrailGoesOn history.now hints.now work.new trail.old trail.new goal.now place.trace) }
     ensures grows { WorkGrows history.now work.old work.new }
-    ensures out { result ≡ Err Stop.OutOfSteps → work.new.counter.used ≡ work.new.counter.limit }
+    ensures out { result ≡ Err Halt.OutOfSteps → work.new.counter.used ≡ work.new.counter.limit }
 {
     holding();
     enter(work, history, place.depth)?;
@@ -123,6 +125,7 @@ pub fn solve<M: Mover>(
         Turn::Closed(line) => Ok(Solved::Proved(line)),
         Turn::Spent(cause) => Ok(Solved::Unsolved(cause)),
         Turn::Led(lead) => solve_led(work, mover, history, hints, trail, goal, place, &lead),
+        Turn::Unknown => Err(Halt::Unknown),
     }
 }
 
@@ -137,7 +140,7 @@ fn solve_led<M: Mover>(
     goal: &[TermId],
     place: Place,
     lead: &Lead<M::Way>,
-) -> Result<Solved, Stop>
+) -> Result<Solved, Halt>
     requires ready { CanMove history.now hints.now work.old }
     requires trail { TrailStands work.old.bank trail.old }
     requires goal { IsGoalIn history.now work.old goal.now }
@@ -146,15 +149,18 @@ fn solve_led<M: Mover>(
     ensures solved { IfOk result (IsSolved history.now hints.now work.new trail.old trail.new goal.now place.number) }
     ensures trail { OnOk result (TrailGoesOn history.now hints.now work.new trail.old trail.new goal.now place.trace) }
     ensures grows { WorkGrows history.now work.old work.new }
-    ensures out { result ≡ Err Stop.OutOfSteps → work.new.counter.used ≡ work.new.counter.limit }
+    ensures out { result ≡ Err Halt.OutOfSteps → work.new.counter.used ≡ work.new.counter.limit }
 {
     holding();
     let tried = solve_nexts(work, mover, history, hints, trail, goal, place, lead)?;
     match tried.cause {
         Some(cause) => Ok(Solved::Unsolved(cause)),
         None => {
-            let line = mover.close(work, history, hints, goal, lead, tried.lines.as_slice())?;
-            Ok(Solved::Proved(line))
+            let closed = mover.close(work, history, hints, goal, lead, tried.lines.as_slice())?;
+            match closed {
+                Some(line) => Ok(Solved::Proved(line)),
+                None => Err(Halt::Unknown),
+            }
         }
     }
 }
@@ -170,7 +176,7 @@ fn solve_nexts<M: Mover>(
     goal: &[TermId],
     place: Place,
     lead: &Lead<M::Way>,
-) -> Result<Tried, Stop>
+) -> Result<Tried, Halt>
     requires ready { CanMove history.now hints.now work.old }
     requires trail { TrailStands work.old.bank trail.old }
     requires goal { IsGoalIn history.now work.old goal.now }
@@ -180,7 +186,7 @@ fn solve_nexts<M: Mover>(
     ensures closed { IfOk result (λ t. AreClosed work.new (goals_at work.new.bank lead.now.nexts.items) t.lines.items t.cause) }
     ensures trail { OnOk result (TrailGoesOn history.now hints.now work.new trail.old trail.new goal.now place.trace) }
     ensures grows { WorkGrows history.now work.old work.new }
-    ensures out { result ≡ Err Stop.OutOfSteps → work.new.counter.used ≡ work.new.counter.limit }
+    ensures out { result ≡ Err Halt.OutOfSteps → work.new.counter.used ≡ work.new.counter.limit }
 {
     holding();
     let alloc = work.bank.alloc();
@@ -217,7 +223,7 @@ fn solve_next<M: Mover>(
     next: &[TermId],
     place: Place,
     kind: MoveKind,
-) -> Result<Solved, Stop>
+) -> Result<Solved, Halt>
     requires ready { CanMove history.now hints.now work.old }
     requires trail { TrailStands work.old.bank trail.old }
     requires next { IsGoalIn history.now work.old next.now }
@@ -225,7 +231,7 @@ fn solve_next<M: Mover>(
     ensures solved { IfOk result (IsNextSolved history.now hints.now work.new trail.old trail.new place.number kind next.now) }
     ensures trail { OnOk result (NextGoesOn history.now hints.now work.new trail.old trail.new place.trace kind next.now) }
     ensures grows { WorkGrows history.now work.old work.new }
-    ensures out { result ≡ Err Stop.OutOfSteps → work.new.counter.used ≡ work.new.counter.limit }
+    ensures out { result ≡ Err Halt.OutOfSteps → work.new.counter.used ≡ work.new.counter.limit }
 {
     let count = trail.steps.len();
     let alloc = work.bank.alloc();

@@ -120,6 +120,7 @@ pub fn prove_by<M: Mover>(
         Outcome::Proved(line, trace) => finish(work, history, hints, uses, goal, line, trace),
         Outcome::Failed(steps, cause) => Ok(Outcome::Failed(steps, cause)),
         Outcome::OutOfSteps => Ok(Outcome::OutOfSteps),
+        Outcome::Unknown => Ok(Outcome::Unknown),
     }
 }
 

@@ -41,8 +41,8 @@ right_log_accepted claims log small right held now status has = elim told [
     told : (status ≡ 0) ⊎ ((4 ≤ status) × (status ≤ 7))
     told = subst (λ (r : Reading). IsVerdictOf r.ending status) right.reads has.verdict
 
-finished_accepted : (start : Option (List ℕ)) (reports : List Report) (held now : Held) → Finished true start done reports held now → (log : List ℕ) × Appends held.log now.log log × IsAccepted log
-finished_accepted start reports held now finished =
+finished_accepted : (steps : ℕ) (start : Option (List ℕ)) (reports : List Report) (held now : Held) → Finished steps true start done reports held now → (log : List ℕ) × Appends held.log now.log log × IsAccepted log
+finished_accepted steps start reports held now finished =
     let written = finished.log in (written.log, written.logs, right_log_accepted _ written.log (written.small refl) (written.log_is refl))
 
 zero_or_one : (n : ℕ) → n ≤ 1 → (n ≡ 0) ⊎ (n ≡ 1)
@@ -51,7 +51,7 @@ zero_or_one (suc zero) low = inr refl
 zero_or_one (suc (suc n)) low = absurd (omega (arith, low))
 
 pub written_logs_law : WrittenLogs
-written_logs_law start left held now status run low = elim (zero_or_one status low) [
-  | inl e ↦ let ended = run.success e in finished_accepted start ended.0 held now ended.1
-  | inr e ↦ let ended = run.refused e in finished_accepted start ended.0 held now ended.1
+written_logs_law steps start left held now status run low = elim (zero_or_one status low) [
+  | inl e ↦ let ended = run.success e in finished_accepted steps start ended.0 held now ended.1
+  | inr e ↦ let ended = run.refused e in finished_accepted steps start ended.0 held now ended.1
 ]

@@ -52,12 +52,12 @@ read_agrees logging (Some text) forms ending status reads is = λ others other m
 -- ---- runs
 
 -- a run that came to the end of its text, or to a fault of its spelling
-abbrev pub Ended : Bool → Option (List ℕ) → Option SyntaxFault → Totals → Held → Held → Type 0
-Ended logging start f totals held now = (reports : List Report) × Finished logging start (ending_of f) reports held now × (totals ≡ totals_of reports)
+abbrev pub Ended : ℕ → Bool → Option (List ℕ) → Option SyntaxFault → Totals → Held → Held → Type 0
+Ended steps logging start f totals held now = (reports : List Report) × Finished steps logging start (ending_of f) reports held now × (totals ≡ totals_of reports)
 
-whole_run : (logging : Bool) (start left : Option (List ℕ)) (totals : Totals) (held now : Held) (status : ℕ) → Ended logging start None totals held now
-    → (b : Bool) → (unsuccessful totals == 0) ≡ b → status ≡ (if b then 0 else 1) → HasRun logging start left held now status
-whole_run logging start left totals held now status ended true none is =
+whole_run : (steps : ℕ) (logging : Bool) (start left : Option (List ℕ)) (totals : Totals) (held now : Held) (status : ℕ) → Ended steps logging start None totals held now
+    → (b : Bool) → (unsuccessful totals == 0) ≡ b → status ≡ (if b then 0 else 1) → HasRun steps logging start left held now status
+whole_run steps logging start left totals held now status ended true none is =
     let none' : unsuccessful totals ≡ 0 = eqb-true (unsuccessful totals) 0 none in
     record {
       success = λ e. (ended.0, ended.1, ap unsuccessful (sym ended.2) ∙ none');
@@ -69,7 +69,7 @@ whole_run logging start left totals held now status ended true none is =
       memory = λ e. absurd (omega (arith, is, e));
       ending = read_agrees logging start (ended.1).forms done status (ended.1).reads (inl (omega (arith, is)));
     }
-whole_run logging start left totals held now status ended false some is =
+whole_run steps logging start left totals held now status ended false some is =
     let some' : unsuccessful totals ≡ 0 → ⊥ = λ z. differ (sym (eq-eqb (unsuccessful totals) 0 z) ∙ some) in
     record {
       success = λ e. absurd (omega (arith, is, e));
@@ -89,10 +89,10 @@ whole_run logging start left totals held now status ended false some is =
     positive zero differs = absurd (differs refl)
     positive (suc n) differs = omega (arith)
 
-pub ended_run : (logging : Bool) (start left : Option (List ℕ)) (f : Option SyntaxFault) (totals : Totals) (held now : Held) (status : ℕ) → status ≡ status_of f totals
-    → Ended logging start f totals held now → HasRun logging start left held now status
-ended_run logging start left None totals held now status is ended = whole_run logging start left totals held now status ended (unsuccessful totals == 0) refl is
-ended_run logging start left (Some f) totals held now status is ended = record {
+pub ended_run : (steps : ℕ) (logging : Bool) (start left : Option (List ℕ)) (f : Option SyntaxFault) (totals : Totals) (held now : Held) (status : ℕ) → status ≡ status_of f totals
+    → Ended steps logging start f totals held now → HasRun steps logging start left held now status
+ended_run steps logging start left None totals held now status is ended = whole_run steps logging start left totals held now status ended (unsuccessful totals == 0) refl is
+ended_run steps logging start left (Some f) totals held now status is ended = record {
   success = λ e. absurd (omega (arith, is, e));
   refused = λ e. absurd (omega (arith, is, e));
   spelling = λ e. (ended.0, f.code, f.offset, ended.1);
@@ -104,9 +104,9 @@ ended_run logging start left (Some f) totals held now status is ended = record {
 }
 
 -- a run that stopped with no more to say than its status
-stopped_run : (logging : Bool) (start left : Option (List ℕ)) (held now : Held) (status : ℕ) → 5 ≤ status → status ≤ 6 → Stopped logging start held now
-    → HasRun logging start left held now status
-stopped_run logging start left held now status least most stopped = record {
+stopped_run : (steps : ℕ) (logging : Bool) (start left : Option (List ℕ)) (held now : Held) (status : ℕ) → 5 ≤ status → status ≤ 6 → Stopped steps logging start held now
+    → HasRun steps logging start left held now status
+stopped_run steps logging start left held now status least most stopped = record {
   success = λ e. absurd (omega (arith, least, e));
   refused = λ e. absurd (omega (arith, least, e));
   spelling = λ e. absurd (omega (arith, least, e));
@@ -117,9 +117,9 @@ stopped_run logging start left held now status least most stopped = record {
   ending = nothing_agrees logging start status (inl (omega (arith, least), most));
 }
 
-unread_run : (logging : Bool) (start left : Option (List ℕ)) (held now : Held) (status : ℕ) → status ≡ 4 → Halted logging start left read_fault.Read held now
-    → HasRun logging start left held now status
-unread_run logging start left held now status is halted = record {
+unread_run : (steps : ℕ) (logging : Bool) (start left : Option (List ℕ)) (held now : Held) (status : ℕ) → status ≡ 4 → Halted steps logging start left read_fault.Read held now
+    → HasRun steps logging start left held now status
+unread_run steps logging start left held now status is halted = record {
   success = λ e. absurd (omega (arith, is, e));
   refused = λ e. absurd (omega (arith, is, e));
   spelling = λ e. absurd (omega (arith, is, e));
@@ -131,16 +131,16 @@ unread_run logging start left held now status is halted = record {
 }
 
 -- the file is too long, or the log is full
-abbrev pub Overrun : Bool → Option (List ℕ) → Option (List ℕ) → Held → Held → Type 0
-Overrun logging start left held now = Halted logging start left read_fault.FileTooLong held now ⊎ ((logging ≡ true) × Full start held now)
+abbrev pub Overrun : ℕ → Bool → Option (List ℕ) → Option (List ℕ) → Held → Held → Type 0
+Overrun steps logging start left held now = Halted steps logging start left read_fault.FileTooLong held now ⊎ ((logging ≡ true) × Full steps start held now)
 
-overrun_agrees : (logging : Bool) (start left : Option (List ℕ)) (held now : Held) (status : ℕ) → status ≡ 7 → Overrun logging start left held now → Agrees logging start status
-overrun_agrees logging start left held now status is (inl halted) = read_agrees logging start halted.forms too_long status halted.reads (inl is)
-overrun_agrees logging start left held now status is (inr full) = nothing_agrees logging start status (inr (full.0, is))
+overrun_agrees : (steps : ℕ) (logging : Bool) (start left : Option (List ℕ)) (held now : Held) (status : ℕ) → status ≡ 7 → Overrun steps logging start left held now → Agrees logging start status
+overrun_agrees steps logging start left held now status is (inl halted) = read_agrees logging start halted.forms too_long status halted.reads (inl is)
+overrun_agrees steps logging start left held now status is (inr full) = nothing_agrees logging start status (inr (full.0, is))
 
-overrun_run : (logging : Bool) (start left : Option (List ℕ)) (held now : Held) (status : ℕ) → status ≡ 7 → Overrun logging start left held now
-    → HasRun logging start left held now status
-overrun_run logging start left held now status is over = record {
+overrun_run : (steps : ℕ) (logging : Bool) (start left : Option (List ℕ)) (held now : Held) (status : ℕ) → status ≡ 7 → Overrun steps logging start left held now
+    → HasRun steps logging start left held now status
+overrun_run steps logging start left held now status is over = record {
   success = λ e. absurd (omega (arith, is, e));
   refused = λ e. absurd (omega (arith, is, e));
   spelling = λ e. absurd (omega (arith, is, e));
@@ -148,22 +148,22 @@ overrun_run logging start left held now status is over = record {
   too_long = λ e. over;
   stopped = λ e. absurd (omega (arith, is, e));
   memory = λ e. absurd (omega (arith, is, e));
-  ending = overrun_agrees logging start left held now status is over;
+  ending = overrun_agrees steps logging start left held now status is over;
 }
 
-pub fault_run : (logging : Bool) (start left : Option (List ℕ)) (held now : Held) (f : RunFault) (status : ℕ) → status ≡ fault_status f
-    → (f ≡ Read → Halted logging start left read_fault.Read held now) → (f ≡ TooLong → Overrun logging start left held now) → Stopped logging start held now
-    → HasRun logging start left held now status
-fault_run logging start left held now Read status is read over stopped = unread_run logging start left held now status is (read refl)
-fault_run logging start left held now Write status is read over stopped = stopped_run logging start left held now status (omega (arith, is)) (omega (arith, is)) stopped
-fault_run logging start left held now Memory status is read over stopped = stopped_run logging start left held now status (omega (arith, is)) (omega (arith, is)) stopped
-fault_run logging start left held now TooLong status is read over stopped = overrun_run logging start left held now status is (over refl)
+pub fault_run : (steps : ℕ) (logging : Bool) (start left : Option (List ℕ)) (held now : Held) (f : RunFault) (status : ℕ) → status ≡ fault_status f
+    → (f ≡ Read → Halted steps logging start left read_fault.Read held now) → (f ≡ TooLong → Overrun steps logging start left held now) → Stopped steps logging start held now
+    → HasRun steps logging start left held now status
+fault_run steps logging start left held now Read status is read over stopped = unread_run steps logging start left held now status is (read refl)
+fault_run steps logging start left held now Write status is read over stopped = stopped_run steps logging start left held now status (omega (arith, is)) (omega (arith, is)) stopped
+fault_run steps logging start left held now Memory status is read over stopped = stopped_run steps logging start left held now status (omega (arith, is)) (omega (arith, is)) stopped
+fault_run steps logging start left held now TooLong status is read over stopped = overrun_run steps logging start left held now status is (over refl)
 
 -- before anything was read or written
-pub untouched_run : (logging : Bool) (start left : Option (List ℕ)) (held : Held) → HasRun logging start left held held 6
-untouched_run logging start left held =
-    stopped_run logging start left held held 6 (omega (arith)) (omega (arith))
-    (inl (begun_interrupted logging start held held refl (logs_within_none logging held.log held.log _ refl)))
+pub untouched_run : (steps : ℕ) (logging : Bool) (start left : Option (List ℕ)) (held : Held) → HasRun steps logging start left held held 6
+untouched_run steps logging start left held =
+    stopped_run steps logging start left held held 6 (omega (arith)) (omega (arith))
+    (inl (begun_interrupted steps logging start held held refl (logs_within_none logging held.log held.log _ refl)))
 
 -- ---- checks
 

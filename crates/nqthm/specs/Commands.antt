@@ -14,19 +14,20 @@ use Rattle.nq_run.specs.Outcome.{Finished, Full, Halted, Held, Stopped}
 use Rattle.nq_sexp.specs.declared.fault.ReadFault.TheVariants.{FileTooLong, Read}
 use Rattle.nqthm.specs.Statuses.{IsStatusOf, IsVerdictOf}
 
--- `run` and `log`, over a text of which so much is left: what the sinks of the commentary and of the log gained
-pub record HasRun (logging : Bool) (start left : Option (List ℕ)) (held now : Held) (status : ℕ) : Type 0 where
+-- `run` and `log` with so many steps for each event, over a text of which so much is left: what the sinks of the commentary and of
+-- the log gained
+pub record HasRun (steps : ℕ) (logging : Bool) (start left : Option (List ℕ)) (held now : Held) (status : ℕ) : Type 0 where
   -- the whole file was run, and the whole commentary was written, and the whole log
-  pub success : status ≡ 0 → (reports : List Report) × Finished logging start done reports held now × (unsuccessful (totals_of reports) ≡ 0)
-  pub refused : status ≡ 1 → (reports : List Report) × Finished logging start done reports held now × (0 < unsuccessful (totals_of reports))
+  pub success : status ≡ 0 → (reports : List Report) × Finished steps logging start done reports held now × (unsuccessful (totals_of reports) ≡ 0)
+  pub refused : status ≡ 1 → (reports : List Report) × Finished steps logging start done reports held now × (0 < unsuccessful (totals_of reports))
   -- the spelling of the file is wrong
-  pub spelling : status ≡ 3 → (reports : List Report) × (code : ℕ) × (offset : ℕ) × Finished logging start (fault code offset) reports held now
+  pub spelling : status ≡ 3 → (reports : List Report) × (code : ℕ) × (offset : ℕ) × Finished steps logging start (fault code offset) reports held now
   -- the lines of all forms that stand whole in what was read were written
-  pub read : status ≡ 4 → Halted logging start left Read held now
-  pub too_long : status ≡ 7 → Halted logging start left FileTooLong held now ⊎ ((logging ≡ true) × Full start held now)
+  pub read : status ≡ 4 → Halted steps logging start left Read held now
+  pub too_long : status ≡ 7 → Halted steps logging start left FileTooLong held now ⊎ ((logging ≡ true) × Full steps start held now)
   -- a front part of such lines, or of a whole commentary, was written, and of their log: its last line is the last write of all
-  pub stopped : status ≡ 5 → Stopped logging start held now
-  pub memory : status ≡ 6 → Stopped logging start held now
+  pub stopped : status ≡ 5 → Stopped steps logging start held now
+  pub memory : status ≡ 6 → Stopped steps logging start held now
   -- the ending of the text leaves no other status but those of failures, of memory, and of a full log
   pub ending : IfSome start (λ text. (forms : Forms) (e : Ending) → Reads 500 (2 ^ 25) text forms e → IsStatusOf logging e status)
 

@@ -82,9 +82,9 @@ pub fn nqthm<S: Source, O: Sink, E: Sink>(
 
     // What each command leaves behind. Want of memory may end it before it begins.
     ensures run { (steps : ℕ) → command_of (map string_bytes words.items) ≡ Some (Command.Run steps)
-        → HasRun false (S.left src.old) (S.left src.new) (held_in (O.written out.old) (E.written side.old)) (held_in (O.written out.new) (E.written side.new)) result }
+        → HasRun steps false (S.left src.old) (S.left src.new) (held_in (O.written out.old) (E.written side.old)) (held_in (O.written out.new) (E.written side.new)) result }
     ensures log { (steps : ℕ) → command_of (map string_bytes words.items) ≡ Some (Command.Log steps)
-        → HasRun true (S.left src.old) (S.left src.new) (held_in (E.written side.old) (O.written out.old)) (held_in (E.written side.new) (O.written out.new)) result }
+        → HasRun steps true (S.left src.old) (S.left src.new) (held_in (E.written side.old) (O.written out.old)) (held_in (E.written side.new) (O.written out.new)) result }
     ensures check { command_of (map string_bytes words.items) ≡ Some Command.Check
         → HasChecked (S.left src.old) (O.written out.old) (O.written out.new) result }
     ensures sample { (seed size : ℕ) → command_of (map string_bytes words.items) ≡ Some (Command.Sample seed size) → result ≡ 0
@@ -126,7 +126,7 @@ fn run_status<S: Source, O: Sink, L: Sink>(
     logging: bool,
     steps: u64,
 ) -> u8
-    ensures run { HasRun logging (S.left src.old) (S.left src.new) (held_in (O.written comment.old) (L.written log.old)) (held_in (O.written comment.new) (L.written log.new)) result }
+    ensures run { HasRun steps logging (S.left src.old) (S.left src.new) (held_in (O.written comment.old) (L.written log.old)) (held_in (O.written comment.new) (L.written log.new)) result }
     ensures alone { logging ≡ false → log.new ≡ log.old }
     ensures source { result ≡ 4 → Rose (S.faults src.old) (S.faults src.new) }
     ensures sink { result ≡ 5 → Rose (O.faults comment.old) (O.faults comment.new) ⊎ Rose (L.faults log.old) (L.faults log.new) }

@@ -13,6 +13,7 @@ mod counting_prover;
 
 use nq_io::{MemSink, MemSource};
 use nqthm::nqthm;
+use shells::has_part;
 use std::alloc::{AllocError, Global};
 use std::test::Fail;
 
@@ -109,7 +110,7 @@ fn each_form_has_its_report(rt: HostRuntime) -> Result<(), Fail> {
         (
             b"(PROVE-LEMMA A NIL (IMPLIES P Q)) (PROVE-LEMMA B NIL (IMPLIES T T))",
             1,
-            b"1. PROVE-LEMMA A\n   Refused 9 NotYet PROVE-LEMMA.\n2. PROVE-LEMMA B\n   By TAUT.\n   Proved.\nForms 2, accepted 1, refused 1, failed 0, skipped 0.\n",
+            b"1. PROVE-LEMMA A\n   0. GOAL: (IMPLIES P Q)\n   1. SIMP from 0: (NOT P) OR Q\n   2. IRR from 1: Q\n   Failed, no induction.\n2. PROVE-LEMMA B\n   By TAUT.\n   Proved.\nForms 2, accepted 1, refused 0, failed 1, skipped 0.\n",
         ),
         (
             b"(PROVE-LEMMA A1 NIL (EQUAL X Y))",
@@ -227,7 +228,7 @@ fn a_lemma_has_its_first_refusal(rt: HostRuntime) -> Result<(), Fail> {
         (
             b"A",
             b"NIL (IMPLIES P Q)",
-            b"Refused 9 NotYet PROVE-LEMMA.\n",
+            b"0. GOAL: (IMPLIES P Q)\n   1. SIMP from 0: ",
         ),
         (
             b"A",
@@ -376,6 +377,30 @@ fn a_sample_is_written_and_run(rt: HostRuntime) -> Result<(), Fail> {
         answered.side.as_slice(),
         b"Forms 3, accepted 3, refused 0, failed 0, skipped 0.\n".as_slice()
     );
+    Ok(())
+}
+
+#[test]
+fn false_propositions_fail_whatever_the_limit(rt: HostRuntime) -> Result<(), Fail> {
+    let text =
+        b"(PROVE-LEMMA A1 NIL (EQUAL X Y))\n(PROVE-LEMMA A2 NIL (EQUAL (PLUS 2 2) 5))\n(PROVE-LEMMA A3 NIL (IMPLIES P Q))\n";
+    for words in [
+        ["nqthm", "run"].as_slice(),
+        &["nqthm", "run", "--steps", "1"],
+    ] {
+        let given = Given {
+            words,
+            ..Given::run(text)
+        };
+        let answered = answer_to(rt.alloc(), given)?;
+        assert_eq!(rt; answered.status, 1);
+        for part in [
+            b"1. PROVE-LEMMA A1\n   0. GOAL: (EQUAL X Y)\n   Failed, no induction.\n2. PROVE-LEMMA A2\n   0. GOAL: (EQUAL (PLUS 2 2) 5)\n   Failed, false.\n3. PROVE-LEMMA A3\n   0. GOAL: (IMPLIES P Q)\n   1. ".as_slice(),
+            b"   Failed, no induction.\nForms 3, accepted 0, refused 0, failed 3, skipped 0.\n",
+        ] {
+            assert!(rt; has_part(answered.out.as_slice(), part));
+        }
+    }
     Ok(())
 }
 

@@ -6,7 +6,7 @@ use Rattle.nq_kernel.specs.Ready.{IsReady}
 use Rattle.nq_run.specs.declared.proving.Found.{Found}
 use Rattle.nq_run.specs.Outcome.{AreBlocks}
 use Rattle.nq_run.specs.Sessions.{IsFoundBy, found_claims}
-use Rattle.nq_run.proofs.ProvingLemmas.{found_before, free_kept, given_back_is, no_line_holds, shown_kept, spelled_kept, symbols_kept, work_stands, written_before}
+use Rattle.nq_run.proofs.ProvingLemmas.{found_before, free_kept, given_back_is, no_line_holds, shown_kept, spelled_kept, spends_all, symbols_kept, work_stands, written_before}
 use Rattle.nq_run.proofs.proving.try_lemma.Goals as goal
 
 pub prove-requires-clause-ready : goal.prove-requires-clause-ready
@@ -34,7 +34,9 @@ tried_by-requires-clause-free g c =
 pub tried_by-requires-clause-shown : goal.tried_by-requires-clause-shown
 tried_by-requires-clause-shown g c =
     shown_kept c.args.bank c.new-work.result.bank c.prove.new.work.bank c.args.history.now c.args.lemma.name c.args.lemma.goal c.requires.history c.requires.name c.requires.goal
-    c.new-work.ensures.bank c.prove.ensures.grows.bank c.prove.new.work c.in_ok-verdict.verdict c.found_by.result c.found_by.ensures c.in_ok-verdict.ensures.told c.in_ok-verdict.ensures.first
+    c.new-work.ensures.bank c.prove.ensures.grows.bank c.prove.new.work c.in_ok-verdict.verdict c.found_by.result c.found_by.ensures
+    (spends_all c.args.history.now c.new-work.result c.prove.new.work (c.new-work.ensures.log ∙ c.new.ensures) c.new-work.ensures.used c.prove.ensures.grows)
+    c.in_ok-verdict.ensures.told c.in_ok-verdict.ensures.first
 
 pub returns-clause-tried : goal.returns-clause-tried
 returns-clause-tried g c =
@@ -48,8 +50,9 @@ returns-clause-tried g c =
     record {
       same = back.bank ∙ ap (λ (b : Content). released b c.mark-mark.result) c.in_ok-tried.ensures.bank
           ∙ given_back_is bank c.new-work.result.bank later h name lemma c.requires.history c.requires.name c.requires.goal c.new-work.ensures.bank c.prove.ensures.grows.bank c.mark-mark.result c.mark-mark.ensures;
-      found = subst (IsFoundBy (events_at bank h) (term_at bank lemma)) (sym back.found)
-          (found_before bank c.new-work.result.bank later h name lemma c.requires.history c.requires.name c.requires.goal c.new-work.ensures.bank c.prove.ensures.grows.bank tried.found c.in_ok-tried.ensures.found);
+      found = subst (λ (limit : ℕ). IsFoundBy limit (events_at bank h) (term_at bank lemma) c.given_back.result.found) (c.prove.ensures.grows.counter.limit ∙ c.new-work.ensures.limit)
+          (subst (IsFoundBy c.prove.new.work.counter.limit (events_at bank h) (term_at bank lemma)) (sym back.found)
+          (found_before bank c.new-work.result.bank later h name lemma c.requires.history c.requires.name c.requires.goal c.new-work.ensures.bank c.prove.ensures.grows.bank c.prove.new.work.counter.limit tried.found c.in_ok-tried.ensures.found));
       written = λ on.
           subst (λ (result : Found). AreBlocks (events_at bank h) (found_claims (text_at bank name) (term_at bank lemma) result) c.given_back.result.block) (sym back.found)
           (subst (λ (block : List ℕ). AreBlocks (events_at bank h) (found_claims (text_at bank name) (term_at bank lemma) tried.found) block) (sym back.block)

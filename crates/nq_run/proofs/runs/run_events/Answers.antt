@@ -32,8 +32,8 @@ returns-in-Ok-clause-finished g c =
     if_some_weaker left _ _ (λ text stop. c.in-Ok.ensures.reads text forms (g.S.Source.left c.run_forms.new.src) stop) walked.3 in
     if_ok_on c.finish.result _ _ _ _ _ (λ ended is appends logs small. (
       ran.reports,
-      subst (λ (z : Option SyntaxFault). Finished logging left (ending_of z) ran.reports held now) (sym is.1)
-          (Ran-finished logging left c.in-Ok.fault forms walked.1.0 (totals_in progress.counts) progress.log.count held before now ran reads appends
+      subst (λ (z : Option SyntaxFault). Finished c.args.limit logging left (ending_of z) ran.reports held now) (sym is.1)
+          (Ran-finished c.args.limit logging left c.in-Ok.fault forms walked.1.0 (totals_in progress.counts) progress.log.count held before now ran reads appends
           (logs_told progress.log.logging logging _ _ _ told.logging logs) (λ w. small (told.logging ∙ w))),
       ap (λ (z : Counts). totals_in z) is.0 ∙ ran.counted,
     )) c.finish.ensures.ended c.finish.ensures.ok c.finish.ensures.log_ok c.finish.ensures.small
@@ -51,8 +51,8 @@ returns-in-Ok-clause-too_long g c e =
     let logging = sym told.logging ∙ full.0 in
     inr (
       logging,
-      Ran-filled left c.in-Ok.fault walked.0 walked.1.0 (totals_in progress.counts) progress.log.count _ _ _
-          (ran_as c.args.logging true _ _ _ _ _ _ logging walked.1.1) reads walked.2 told.bound full.1 full.2 full.3,
+      Ran-filled c.args.limit left c.in-Ok.fault walked.0 walked.1.0 (totals_in progress.counts) progress.log.count _ _ _
+          (ran_as c.args.limit c.args.logging true _ _ _ _ _ _ logging walked.1.1) reads walked.2 told.bound full.1 full.2 full.3,
     )
 
 pub returns-in-Ok-clause-stopped : goal.returns-in-Ok-clause-stopped
@@ -69,7 +69,7 @@ returns-in-Ok-clause-stopped g c =
     let reads : IfSome left (λ text. Reads 500 (2 ^ 25) text forms ending) =
     if_some_weaker left _ _ (λ text stop. c.in-Ok.ensures.reads text forms (g.S.Source.left c.run_forms.new.src) stop) walked.3 in
     on_err_weaker c.finish.result _ _
-    (λ fails. inr (Ran-cut logging left c.in-Ok.fault forms walked.1.0 (totals_in progress.counts) progress.log.count _ _ _ walked.1.1 reads
+    (λ fails. inr (Ran-cut c.args.limit logging left c.in-Ok.fault forms walked.1.0 (totals_in progress.counts) progress.log.count _ _ _ walked.1.1 reads
     (subst (λ (z : Bool). WriteFails z (closing_lines ending (totals_in progress.counts)) (last_text ending) before now) told.logging fails))) c.finish.ensures.fails
 
 pub returns-in-Err-clause-read : goal.returns-in-Err-clause-read
@@ -80,7 +80,7 @@ returns-in-Err-clause-read g c e =
     let progress = c.in_ok-walked.walked.progress in
     let same : c.in-Err.fault ≡ run_fault.Read = cc in
     let stop_is : c.in_ok-walked.walked.stop ≡ Some read_fault.Read = c.in-Err.ensures.read (ap (λ (z : RunFault). Err z) same) in
-    Ran-halted c.args.logging left still read_fault.Read walked.0 walked.1.0 (totals_in progress.counts) progress.log.count _ _ walked.1.1
+    Ran-halted c.args.limit c.args.logging left still read_fault.Read walked.0 walked.1.0 (totals_in progress.counts) progress.log.count _ _ walked.1.1
     (subst (λ (z : Option ReadFault). IfSome left (λ text. IsStop text walked.0 still z)) stop_is walked.3)
 
 pub returns-in-Err-clause-too_long : goal.returns-in-Err-clause-too_long
@@ -91,11 +91,11 @@ returns-in-Err-clause-too_long g c e =
     let progress = c.in_ok-walked.walked.progress in
     let same : c.in-Err.fault ≡ run_fault.TooLong = cc in
     let stop_is : c.in_ok-walked.walked.stop ≡ Some read_fault.FileTooLong = c.in-Err.ensures.too_long (ap (λ (z : RunFault). Err z) same) in
-    inl (Ran-halted c.args.logging left still read_fault.FileTooLong walked.0 walked.1.0 (totals_in progress.counts) progress.log.count _ _ walked.1.1
+    inl (Ran-halted c.args.limit c.args.logging left still read_fault.FileTooLong walked.0 walked.1.0 (totals_in progress.counts) progress.log.count _ _ walked.1.1
     (subst (λ (z : Option ReadFault). IfSome left (λ text. IsStop text walked.0 still z)) stop_is walked.3))
 
 pub returns-in-Err-clause-stopped : goal.returns-in-Err-clause-stopped
 returns-in-Err-clause-stopped g c =
     let walked = c.in_ok-walked.ensures.walked in
     let progress = c.in_ok-walked.walked.progress in
-    Ran-interrupted c.args.logging (g.S.Source.left c.args.src.now) walked.0 walked.1.0 (totals_in progress.counts) progress.log.count _ _ walked.1.1 walked.2
+    Ran-interrupted c.args.limit c.args.logging (g.S.Source.left c.args.src.now) walked.0 walked.1.0 (totals_in progress.counts) progress.log.count _ _ walked.1.1 walked.2

@@ -12,10 +12,10 @@ use Rattle.nq_run.proofs.SpelledLemmas.{items_spelled}
 use Rattle.nq_run.proofs.runs.run_forms.Goals as goal
 
 pub returns-in_err-session-clause-stopped : goal.returns-in_err-session-clause-stopped
-returns-in_err-session-clause-stopped g c = on_err c.from_residual.result _ (begun_interrupted c.args.logging _ _ _ refl (logs_within_none c.args.logging _ _ _ refl))
+returns-in_err-session-clause-stopped g c = on_err c.from_residual.result _ (begun_interrupted c.args.limit c.args.logging _ _ _ refl (logs_within_none c.args.logging _ _ _ refl))
 
 pub returns-in_err-begin-clause-stopped : goal.returns-in_err-begin-clause-stopped
-returns-in_err-begin-clause-stopped g c = on_err c.from_residual-in_err-begin.result _ (begun_interrupted c.args.logging _ _ _ refl c.in_err-begin.ensures.err)
+returns-in_err-begin-clause-stopped g c = on_err c.from_residual-in_err-begin.result _ (begun_interrupted c.args.limit c.args.logging _ _ _ refl c.in_err-begin.ensures.err)
 
 pub loop-form-init : goal.loop-form-init
 loop-form-init g c =
@@ -24,7 +24,7 @@ loop-form-init g c =
       (
         end,
         so_far-start _ _ _ (ap (λ (r : Reading). r.held.bytes) made) (ap (λ (r : Reading). r.held.at) made) refl,
-        Ran-start c.args.logging _ _ _ _ _ c.zero.ensures c.in_ok-session.ensures.none refl c.in_ok-begin.ensures.ok c.in_ok-begin.ensures.count,
+        Ran-start c.args.limit c.args.logging _ _ _ _ _ c.zero.ensures c.in_ok-session.ensures.none refl c.in_ok-begin.ensures.ok c.in_ok-begin.ensures.count,
       ),
       ap (λ (r : Reading). r.live) made,
       omega (arith, none),
@@ -50,8 +50,8 @@ returns-in_err-turn-in-Ok-Some-clause-full g c e =
     let full = c.in_err-turn-in-Ok-Some.ensures.full (search rules) in
     let logging = sym c.loop-form.invariant.7 ∙ full.0 in (
       logging,
-      Ran-full start before.0 form (history_of c.loop-form.session) (totals_in c.loop-form.progress.counts) c.loop-form.progress.log.count _ _ _
-          (ran_as c.args.logging true _ _ _ _ _ _ logging before.2) (begun_of start c.next.new.self.held (left c.next.new.source) (push before.0 form) more) c.loop-form.invariant.8 full.1,
+      Ran-full c.args.limit start before.0 form (history_of c.loop-form.session) (totals_in c.loop-form.progress.counts) c.loop-form.progress.log.count _ _ _
+          (ran_as c.args.limit c.args.logging true _ _ _ _ _ _ logging before.2) (begun_of start c.next.new.self.held (left c.next.new.source) (push before.0 form) more) c.loop-form.invariant.8 full.1,
     )
 
 pub returns-in_err-turn-in-Ok-Some-clause-stopped : goal.returns-in_err-turn-in-Ok-Some-clause-stopped
@@ -62,11 +62,11 @@ returns-in_err-turn-in-Ok-Some-clause-stopped g c =
     let form = tree c.in-Ok-Some.form in
     let found = rw c.in-Ok-Some.field-0-is at c.in-Ok-Some.ensures.form in
     let more = so_far-next left start _ _ _ _ before.0 form before.1 found in
-    on_err c.from_residual-in_err-turn-in-Ok-Some.result _ (Ran-stopped c.args.logging start before.0 form (history_of c.loop-form.session) (totals_in c.loop-form.progress.counts)
+    on_err c.from_residual-in_err-turn-in-Ok-Some.result _ (Ran-stopped c.args.limit c.args.logging start before.0 form (history_of c.loop-form.session) (totals_in c.loop-form.progress.counts)
     c.loop-form.progress.log.count _ _ _ before.2
     (begun_of start c.loop-form.reader.held (left c.loop-form.src) before.0 before.1)
     (begun_of start c.next.new.self.held (left c.next.new.source) (push before.0 form) more)
-    (stopped_as _ c.args.logging _ _ _ _ _ c.loop-form.invariant.7 c.in_err-turn-in-Ok-Some.ensures.stopped))
+    (stopped_as c.args.limit _ c.args.logging _ _ _ _ _ c.loop-form.invariant.7 c.in_err-turn-in-Ok-Some.ensures.stopped))
 
 pub returns-in-Ok-None-clause-walked : goal.returns-in-Ok-None-clause-walked
 returns-in-Ok-None-clause-walked g c =
@@ -118,13 +118,13 @@ loop-form-preserved g c =
     let found = rw c.in-Ok-Some.field-0-is at c.in-Ok-Some.ensures.form in
     let later = c.in_ok-turn-in-Ok-Some.turn in
     let told = c.in_ok-turn-in-Ok-Some.ensures in
-    let turned = turned_as _ c.args.logging _ _ _ _ _ _ _ _ _ c.loop-form.invariant.7 told.turned in
+    let turned = turned_as c.args.limit _ c.args.logging _ _ _ _ _ _ _ _ _ c.loop-form.invariant.7 told.turned in
     let longer : c.loop-form.reader.held.at < c.next.new.self.held.at = found-longer left start _ _ _ _ _ found in
     let one : later.progress.counts.forms ≡ c.loop-form.progress.counts.forms + 1 = forms_after turned.report _ _ turned.totals in (
       (
         push before.0 form,
         so_far-next left start _ _ _ _ before.0 form before.1 found,
-        Ran-more c.args.logging before.0 form _ _ _ _ _ _ _ _ _ before.2 turned,
+        Ran-more c.args.limit c.args.logging before.0 form _ _ _ _ _ _ _ _ _ before.2 turned,
       ),
       c.in-Ok-Some.ensures.live,
       omega (arith, one, longer, c.loop-form.invariant.2),

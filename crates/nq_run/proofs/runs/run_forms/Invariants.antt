@@ -11,7 +11,7 @@ use Rattle.nq_run.proofs.runs.run_forms.Given as goal
 -- learnt the history
 abbrev pub invariant-loop-form : goal.invariant-loop-form
 invariant-loop-form g l = ((forms : Forms) × SoFar (g.S.Source.left l.fn.src) l.reader.held (g.S.Source.left l.src) forms
-    × Ran l.fn.logging forms (history_of l.session) (totals_in l.progress.counts) l.progress.log.count
+    × Ran l.fn.limit l.fn.logging forms (history_of l.session) (totals_in l.progress.counts) l.progress.log.count
     (held_in (g.O.Sink.written l.fn.comment) (g.L.Sink.written l.fn.log)) (held_in (g.O.Sink.written l.comment) (g.L.Sink.written l.log)))
     × IsTrue l.reader.live × (l.progress.counts.forms ≤ l.reader.held.at)
     × (g.S.Source.faults l.fn.src ≤ g.S.Source.faults l.src) × (g.O.Sink.faults l.fn.comment ≤ g.O.Sink.faults l.comment)

@@ -1,14 +1,13 @@
-use Rattle.std.proofs.Common.{[], ◌∷◌, get_or}
+use Rattle.std.proofs.Common.{[], ◌∷◌}
 use Rattle.std.specs.Prelude.{IfSome}
 use Rattle.std.proofs.lemmas.Result.{IfOk-weaker}
-use Rattle.nq_bank.specs.declared.node.TermId.{TermId}
 use Rattle.nq_bank.specs.Content.{term_at, terms_at}
 use Rattle.nq_history.specs.Events.{events_at}
 use Rattle.nq_event.specs.EventsAt.{hints_at}
 use Rattle.nq_goals.specs.Moves.{IsMove}
 use Rattle.nq_goals.specs.declared.kinds.MoveKind.TheVariants.{Ind}
 use Rattle.nq_tracer.specs.Leads.{IsInduction}
-use Rattle.nq_tracer.proofs.MoveSteps.{moves_found, one_literal}
+use Rattle.nq_tracer.proofs.MoveSteps.{moves_found}
 use Rattle.nq_tracer.proofs.induction.induction_from.Goals as goal
 
 pub returns-then-branch-clause-moves : goal.returns-then-branch-clause-moves
@@ -17,9 +16,7 @@ returns-then-branch-clause-moves c =
     let new = c.induct_on.new.bank in
     let h = events_at old c.args.history.now in
     let hints = hints_at old c.args.hints.now in
-    let ids = c.args.goal.now in
-    let none : TermId = record { 0 = 0 } in
-    let p = term_at old (get_or ids 0 none) in
-    IfOk-weaker c.induct_on.result (λ found. IfSome found (λ n. IsInduction h p (term_at new n.base) (term_at new n.step)))
-    (λ found. IfSome found (λ n. IsMove h hints [] Ind (terms_at old ids) ((term_at new n.base ∷ []) ∷ (term_at new n.step ∷ []) ∷ [])))
-    (λ found leads. moves_found h hints (terms_at old ids) p new found (one_literal old ids none c.in-len1.len_at_least c.in-len1.len_below) (c.in_ok-is_due-in-len1.ensures c.if-branch.true) leads) c.induct_on.ensures.leads
+    let first = terms_at old c.args.goal.now in
+    IfOk-weaker c.induct_on.result (λ found. IfSome found (λ n. IsInduction h first (term_at new n.base) (term_at new n.step)))
+    (λ found. IfSome found (λ n. IsMove h hints [] Ind first ((term_at new n.base ∷ []) ∷ (term_at new n.step ∷ []) ∷ [])))
+    (λ found leads. moves_found h hints first new found (c.in_ok-is_due.ensures c.if-branch.true) leads) c.induct_on.ensures.leads

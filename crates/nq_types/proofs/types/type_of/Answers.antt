@@ -8,11 +8,14 @@ use Rattle.nq_lines.proofs.TermLemmas.{term_grown}
 use Rattle.nq_types.specs.Kinds.{IsOfKind}
 use Rattle.nq_types.specs.Shown.{IsExact, IsKnown, IsShown}
 use Rattle.nq_types.proofs.SetLemmas.{known_exact, known_shown}
-use Rattle.nq_types.proofs.TypeLemmas.{all_grown, room_grown, shown_before}
+use Rattle.nq_types.proofs.TypeLemmas.{all_grown, ready_grown, room_grown, shown_before}
 use Rattle.nq_types.proofs.types.type_of.Goals as goal
 
 pub guessed_type-requires-clause-room : goal.guessed_type-requires-clause-room
 guessed_type-requires-clause-room c = room_grown c.args.history.now c.args.work.now c.exact_type.new.work c.requires.stands c.exact_type.ensures.grows c.requires.room
+
+pub guessed_type-requires-clause-ready : goal.guessed_type-requires-clause-ready
+guessed_type-requires-clause-ready c = ready_grown c.args.history.now c.args.work.now c.exact_type.new.work c.requires.stands c.exact_type.ensures.grows c.requires.ready
 
 pub guessed_type-requires-clause-assumed : goal.guessed_type-requires-clause-assumed
 guessed_type-requires-clause-assumed c = all_grown c.args.history.now c.args.work.now c.exact_type.new.work c.requires.stands c.exact_type.ensures.grows c.args.assumed.now c.requires.assumed

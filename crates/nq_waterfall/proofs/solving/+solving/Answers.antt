@@ -1,5 +1,5 @@
 use Rattle.std.proofs.Common.{refl, rules, ◌≡◌, ◌≤◌, List, [], length, sym, subst, arith}
-use Rattle.std.specs.Prelude.{All, slice_get, Some}
+use Rattle.std.specs.Prelude.{All, IfSome, slice_get, Some}
 use Rattle.nq_bank.specs.Content.{terms_at}
 use Rattle.nq_history.specs.Events.{events_at}
 use Rattle.nq_goals.proofs.SolverLaws.{solver_laws}
@@ -7,10 +7,11 @@ use Rattle.nq_history.specs.declared.entry.Entry.{Entry}
 use Rattle.nq_history.specs.declared.hints.Hints.{Hints}
 use Rattle.nq_kernel.specs.declared.work.Work.{Work}
 use Rattle.nq_kernel.specs.Growing.{WorkGrows}
+use Rattle.nq_lines.specs.Lines.{LineHasOnly}
 use Rattle.nq_kernel.proofs.GrowingLemmas.{WorkGrows-refl, WorkGrows-trans}
 use Rattle.nq_waterfall.specs.Kinds.{goal_kind}
 use Rattle.nq_waterfall.specs.declared.trail.Trail.{Trail}
-use Rattle.nq_normal.specs.Definitions.{hints_at}
+use Rattle.nq_event.specs.EventsAt.{hints_at}
 use Rattle.nq_waterfall.specs.Trails.{TrailStands, StepStands, AncestorStands, steps_at, above_at}
 use Rattle.nq_waterfall.specs.Turns.{HaveLines}
 use Rattle.nq_waterfall.specs.Solved.{TriedAt, IsNextSolved, NextGoesOn, TrailGoesOn}
@@ -41,6 +42,9 @@ solve-returns-in-Closed-clause-grows g t c = WorkGrows-trans c.args.history.now 
 
 pub solve-returns-in-Spent-clause-grows : goal.solve-returns-in-Spent-clause-grows
 solve-returns-in-Spent-clause-grows g t c = WorkGrows-trans c.args.history.now c.args.work.now c.enter.new.work c.lead.new.work c.enter.ensures.grows c.lead.ensures.grows
+
+pub solve-returns-in-Unknown-clause-grows : goal.solve-returns-in-Unknown-clause-grows
+solve-returns-in-Unknown-clause-grows g t c = WorkGrows-trans c.args.history.now c.args.work.now c.enter.new.work c.lead.new.work c.enter.ensures.grows c.lead.ensures.grows
 
 pub solve-solve_led-requires : goal.solve-solve_led-requires
 solve-solve_led-requires g t c =
@@ -90,11 +94,11 @@ solve_led-close-requires-clause-goal g t c = goal_grown c.args.history.now c.arg
 pub solve_led-close-requires-clause-nexts : goal.solve_led-close-requires-clause-nexts
 solve_led-close-requires-clause-nexts g t c = goals_grown c.args.history.now c.args.work.now c.solve_nexts.new.work c.requires.ready.stands c.solve_nexts.ensures.grows c.args.lead.now.nexts.items c.requires.lead.nexts_in
 
-pub solve_led-returns-in_err-line-in-None-clause-grows : goal.solve_led-returns-in_err-line-in-None-clause-grows
-solve_led-returns-in_err-line-in-None-clause-grows g t c = WorkGrows-trans c.args.history.now c.args.work.now c.solve_nexts.new.work c.close.new.work c.solve_nexts.ensures.grows c.close.ensures.grows
+pub solve_led-returns-in_err-closed-in-None-clause-grows : goal.solve_led-returns-in_err-closed-in-None-clause-grows
+solve_led-returns-in_err-closed-in-None-clause-grows g t c = WorkGrows-trans c.args.history.now c.args.work.now c.solve_nexts.new.work c.close.new.work c.solve_nexts.ensures.grows c.close.ensures.grows
 
-pub solve_led-returns-clause-solved : goal.solve_led-returns-clause-solved
-solve_led-returns-clause-solved g t c =
+pub solve_led-returns-in-Some-closed-clause-solved : goal.solve_led-returns-in-Some-closed-clause-solved
+solve_led-returns-in-Some-closed-clause-solved g t c =
     let h : List Entry = c.args.history.now in
     let old : Work = c.args.work.now in
     let one : Work = c.solve_nexts.new.work in
@@ -102,13 +106,13 @@ solve_led-returns-clause-solved g t c =
     let ready : CanMove h c.args.hints.now one = ready_grown h old one c.requires.ready.stands up c.holding.ensures c.args.hints.now c.requires.ready in
     let trail : TrailStands one.bank c.args.trail.now = trail_grown old.bank one.bank up.bank c.args.trail.now c.requires.trail in
     let inside : IsGoalIn h one c.args.goal.now = goal_grown h old one c.requires.ready.stands up c.args.goal.now c.requires.goal in (
-      c.in_ok-line-in-None.ensures.line,
+      subst (λ o. IfSome o (λ n. LineHasOnly c.close.new.work n (terms_at c.close.new.work.bank c.args.goal.now))) c.in-Some-closed.is c.in_ok-closed-in-None.ensures.line,
       steps_after h c.args.hints.now one c.close.new.work ready c.close.ensures.grows c.args.trail.now trail c.args.goal.now inside c.solve_nexts.new.trail c.args.lead.now.kind c.args.lead.now.nexts.items c.args.place.number c.in_ok-tried.ensures.trail.stands
           (subst (TriedAt one.bank h c.args.hints.now c.args.trail.now.path.items c.args.goal.now c.args.lead.now.kind c.args.place.number c.args.lead.now.nexts.items (steps_at one.bank c.args.trail.now.steps.items) (steps_at one.bank c.solve_nexts.new.trail.steps.items)) c.in-None.is c.in_ok-tried.ensures.tried),
     )
 
-pub solve_led-returns-clause-trail : goal.solve_led-returns-clause-trail
-solve_led-returns-clause-trail g t c =
+pub solve_led-returns-in-Some-closed-clause-trail : goal.solve_led-returns-in-Some-closed-clause-trail
+solve_led-returns-in-Some-closed-clause-trail g t c =
     let h : List Entry = c.args.history.now in
     let old : Work = c.args.work.now in
     let one : Work = c.solve_nexts.new.work in
@@ -117,6 +121,9 @@ solve_led-returns-clause-trail g t c =
     let trail : TrailStands one.bank c.args.trail.now = trail_grown old.bank one.bank up.bank c.args.trail.now c.requires.trail in
     let inside : IsGoalIn h one c.args.goal.now = goal_grown h old one c.requires.ready.stands up c.args.goal.now c.requires.goal in
     trail_after h c.args.hints.now one c.close.new.work ready c.close.ensures.grows c.args.trail.now trail c.args.goal.now inside c.solve_nexts.new.trail c.args.place.trace c.in_ok-tried.ensures.trail
+
+pub solve_led-returns-in-Some-closed-clause-grows : goal.solve_led-returns-in-Some-closed-clause-grows
+solve_led-returns-in-Some-closed-clause-grows g t c = WorkGrows-trans c.args.history.now c.args.work.now c.solve_nexts.new.work c.close.new.work c.solve_nexts.ensures.grows c.close.ensures.grows
 
 pub solve_led-returns-clause-grows : goal.solve_led-returns-clause-grows
 solve_led-returns-clause-grows g t c = WorkGrows-trans c.args.history.now c.args.work.now c.solve_nexts.new.work c.close.new.work c.solve_nexts.ensures.grows c.close.ensures.grows

@@ -12,7 +12,7 @@ use Rattle.nq_lines.proofs.TermLemmas.{term_grown}
 use Rattle.nq_goals.specs.Trees.{IsFailureTree}
 use Rattle.nq_waterfall.specs.Kinds.{goal_cause}
 use Rattle.nq_waterfall.specs.declared.uses.Used.{Used}
-use Rattle.nq_normal.specs.Definitions.{hints_at}
+use Rattle.nq_event.specs.EventsAt.{hints_at}
 use Rattle.nq_waterfall.specs.Trails.{steps_at}
 use Rattle.nq_traces.specs.Traces.{IsTrace}
 use Rattle.nq_waterfall.specs.Ready.{IsGoalIn}

@@ -13,10 +13,10 @@ forget-requires g c = record {
 
 pub returns-clause-taken : goal.returns-clause-taken
 returns-clause-taken g c =
-    λ form.
+    λ limit form.
     let new : Session = record { bank = c.back_to_ground.new.bank; history = c.back_to_ground.new.self } in
     let back = c.back_to_ground.ensures in
-    grounded c.args.self new form c.args.logging c.in_ok-block.block back.none
+    grounded limit c.args.self new form c.args.logging c.in_ok-block.block back.none
     (ground_stands c.events_are_spelled.ensures.begin new back.stands_after back.marked_after back.none) c.in_ok-block.ensures
 
 pub returns-clause-learnt : goal.returns-clause-learnt

@@ -35,14 +35,14 @@ returns-in-Ok-clause-takes g c =
     let bank = c.parse_event.new.bank in
     let form = tree c.args.form.now in
     let event = c.in-Ok.event in
-    IfOk-weaker c.take_event.result (TakesEvent (events_at bank c.args.self.history) form (event_at bank event) c.args.logging) _
-    (λ r taken. takes_form c.args.self bank form event c.args.logging c.requires.stands c.in-Ok.ensures.grows r c.in-Ok.ensures.event taken) c.take_event.ensures.takes
+    IfOk-weaker c.take_event.result (TakesEvent c.args.steps (events_at bank c.args.self.history) form (event_at bank event) c.args.logging) _
+    (λ r taken. takes_form c.args.self bank form event c.args.logging c.requires.stands c.in-Ok.ensures.grows c.args.steps r c.in-Ok.ensures.event taken) c.take_event.ensures.takes
 
 pub returns-in_ok-answer-in-Err-clause-takes : goal.returns-in_ok-answer-in-Err-clause-takes
 returns-in_ok-answer-in-Err-clause-takes g c =
     let bank = c.parse_event.new.bank in
     let grown : Session = record { bank = bank; history = c.args.self.history } in
-    refused_form c.args.self grown (tree c.args.form.now) c.args.logging c.in-Err.fault c.in_ok-answer-in-Err.answer c.untaken.result (same_history c.args.self bank c.requires.stands c.in-Err.ensures.grows)
+    refused_form c.args.steps c.args.self grown (tree c.args.form.now) c.args.logging c.in-Err.fault c.in_ok-answer-in-Err.answer c.untaken.result (same_history c.args.self bank c.requires.stands c.in-Err.ensures.grows)
     c.in-Err.ensures.refused c.in_ok-answer-in-Err.ensures c.untaken.ensures
 
 pub returns-in_ok-answer-in-Err-clause-learnt : goal.returns-in_ok-answer-in-Err-clause-learnt

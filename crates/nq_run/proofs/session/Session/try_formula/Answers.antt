@@ -24,7 +24,7 @@ pub proved-requires-clause-shown : goal.proved-requires-clause-shown
 proved-requires-clause-shown g c =
     let old = c.args.self in
     let told = c.in_ok-tried.ensures.tried in
-    let found = way_found (history_of old) (term_at old.bank c.args.lemma.goal) c.in_ok-tried.tried.found c.in-Some.way (sym c.way_in.ensures ∙ c.in-Some.is) told.found in
+    let found = way_found c.args.given.steps (history_of old) (term_at old.bank c.args.lemma.goal) c.in_ok-tried.tried.found c.in-Some.way (sym c.way_in.ensures ∙ c.in-Some.is) told.found in
     subst (λ (b : Content). Derivable (events_at b old.history) (holds (term_at b c.args.lemma.goal))) (sym told.same) found.1
 
 pub searched-requires-clause-stands : goal.searched-requires-clause-stands
@@ -39,7 +39,7 @@ searched-requires-clause-hint_terms g c = subst (λ (b : Content). HintsAreIn b 
 pub searched-requires-clause-found : goal.searched-requires-clause-found
 searched-requires-clause-found g c =
     let told = c.in_ok-tried.ensures.tried in
-    subst (λ (b : Content). IsFoundBy (events_at b c.args.self.history) (term_at b c.args.lemma.goal) c.in_ok-tried.tried.found) (sym told.same) told.found
+    subst (λ (b : Content). IsFoundBy c.args.given.steps (events_at b c.args.self.history) (term_at b c.args.lemma.goal) c.in_ok-tried.tried.found) (sym told.same) told.found
 
 pub searched-requires-clause-other : goal.searched-requires-clause-other
 searched-requires-clause-other g c = sym c.way_in.ensures ∙ c.in-None.is
@@ -65,8 +65,8 @@ returns-in-Some-clause-tries g c =
     let told = c.in_ok-tried.ensures.tried in
     let way = c.in-Some.way in
     let is = sym c.way_in.ensures ∙ c.in-Some.is in
-    let found = way_found h t tried.found way is told.found in
-    proved_on c.proved.result h form name classes t hints c.proved_by.result (Proved (quick_of way)) c.args.given.logging tried.block refl (fragment_tried h form hints t way found.0 found.1)
+    let found = way_found c.args.given.steps h t tried.found way is told.found in
+    proved_on c.args.given.steps c.proved.result h form name classes t hints c.proved_by.result (Proved (quick_of way)) c.args.given.logging tried.block refl (fragment_tried c.args.given.steps h form hints t way found.0 found.1)
     (subst (λ (b : Content). IfOk c.proved.result (λ r. history_of r.session ≡ events_at b old.history ++ logic.Lemma (text_at b c.args.lemma.name) classes (term_at b c.args.lemma.goal) ∷ [])) told.same c.proved.ensures.after)
     c.proved.ensures.stands_after c.proved.ensures.answer c.proved_by.ensures c.proved.ensures.block (λ on. way_block h name t tried.found way tried.block is (told.written on))
 
@@ -75,5 +75,5 @@ returns-in-None-clause-tries g c =
     let old = c.args.self in
     let form = tree c.args.given.form.now in
     let classes = map class_of c.args.classes.items in
-    subst (λ (b : Content). IfOk c.searched.result (TriesLemma (events_at b old.history) form (text_at b c.args.lemma.name) classes (term_at b c.args.lemma.goal) (hints_at b c.args.lemma.hints.now) c.args.given.logging))
+    subst (λ (b : Content). IfOk c.searched.result (TriesLemma c.args.given.steps (events_at b old.history) form (text_at b c.args.lemma.name) classes (term_at b c.args.lemma.goal) (hints_at b c.args.lemma.hints.now) c.args.given.logging))
     c.in_ok-tried.ensures.tried.same c.searched.ensures.tries

@@ -51,5 +51,5 @@ pub returns-clause-taken : goal.returns-clause-taken
 returns-clause-taken g c =
     let old = c.args.self in
     let mark = c.args.given.mark in
-    shell_added old (tree c.args.given.form.now) c.args.shell mark c.args.given.logging c.in_ok-block.block c.accepted.result c.requires.lawful c.in_ok-block.ensures.block
+    shell_added c.args.given.steps old (tree c.args.given.form.now) c.args.shell mark c.args.given.logging c.in_ok-block.block c.accepted.result c.requires.lawful c.in_ok-block.ensures.block
     (subst (λ s. IfOk c.accepted.result (λ r. IsAdded old (shell_entry s mark) r.session)) c.in_ok-block.ensures.same c.accepted.ensures.added) c.accepted.ensures.answer c.accepted.ensures.block

@@ -1,0 +1,79 @@
+//! Goals that are tried on small values.
+use crate::choosing::chosen;
+use crate::dice::Dice;
+use crate::evaluating::{Binding, value_of};
+use crate::stuck::Stuck;
+use crate::trial::{Trial, Value};
+use crate::variables::{Variable, variables_of};
+use nq_bank::{Bank, TermId};
+use nq_history::History;
+use std::alloc::AllocError;
+
+/// How often a goal is tried.
+const TRIALS: u32 = 100;
+
+/// After how many trials that tell nothing no more are made.
+const STUCK_TRIALS: u32 = 20;
+
+/// The variables, bound to values that dice choose.
+fn chosen_bindings(
+    bank: &Bank,
+    history: &History,
+    trial: &mut Trial,
+    dice: &mut Dice,
+    variables: &[Variable],
+) -> Result<Vec<Binding>, Stuck> {
+    let mut bindings = Vec::new(bank.alloc());
+    for variable in variables {
+        let value = chosen(bank.alloc(), history, trial, dice, variable.kind)?;
+        let binding = Binding {
+            name: variable.name,
+            value,
+        };
+        if bindings.push(binding).is_err() {
+            return Err(Stuck::Memory);
+        }
+    }
+    Ok(bindings)
+}
+
+/// Is each literal F where the variables have values that dice choose?
+fn fails_once(
+    bank: &Bank,
+    history: &History,
+    dice: &mut Dice,
+    variables: &[Variable],
+    goal: &[TermId],
+) -> Result<bool, Stuck> {
+    let mut trial = Trial::new(bank.alloc());
+    let bindings = chosen_bindings(bank, history, &mut trial, dice, variables)?;
+    for literal in goal {
+        let value = value_of(bank, history, &mut trial, bindings.as_slice(), *literal)?;
+        if value != Value::False {
+            return Ok(false);
+        }
+    }
+    Ok(true)
+}
+
+/// Has a goal a counterexample among small values? Where the answer is false, it may have one all the same. It fails only for
+/// want of memory.
+pub fn is_refuted(bank: &Bank, history: &History, goal: &[TermId]) -> Result<bool, AllocError> {
+    let variables = variables_of(bank, history, goal)?;
+    let mut dice = Dice::new();
+    let mut patience = STUCK_TRIALS;
+    for _ in 0..TRIALS {
+        match fails_once(bank, history, &mut dice, variables.as_slice(), goal) {
+            Ok(true) => return Ok(true),
+            Ok(false) => {}
+            Err(Stuck::Over) => {
+                if patience == 0 {
+                    return Ok(false);
+                }
+                patience -= 1;
+            }
+            Err(Stuck::Memory) => return Err(AllocError),
+        }
+    }
+    Ok(false)
+}

@@ -1,0 +1,114 @@
+-- Why goals are left over.
+use Rattle.std.proofs.Common.{◌≡◌, ◌<◌, ◌≤◌, Bool, true, false, Option, Some, None, List, [], ◌∷◌, ◌++◌, length, refl, sym, ap, ◌∙◌, arith}
+use Rattle.std.specs.Prelude.{◌↔◌, IsTrue, IfOk, Result, Ok, Err}
+use Rattle.std.specs.declared.alloc.AllocError.{AllocError}
+use Rattle.std.specs.Option.{option_map}
+use Rattle.nq_logic.specs.Terms.{Term}
+use Rattle.nq_bank.specs.declared.node.TermId.{TermId}
+use Rattle.nq_bank.specs.Content.{Content, term_at, terms_at}
+use Rattle.nq_proof.specs.Clauses.{Clause}
+use Rattle.nq_history.specs.declared.entry.Entry.{Entry}
+use Rattle.nq_history.specs.declared.hints.Hints.{Hints}
+use Rattle.nq_history.specs.Events.{events_at}
+use Rattle.nq_event.specs.EventsAt.{hints_at}
+use Rattle.nq_kernel.specs.declared.verdict.Cause.TheVariants as causes
+use Rattle.nq_goals.specs.Inducting.{hinted_call, hinted_or, hinted_term, scheme_calls, suggesting_among, suggesting_in, suggestions}
+use Rattle.nq_goals.specs.Moves.{IsSubsumed, induction_limit, no_candidate}
+use Rattle.nq_goals.specs.Paths.{inducted_goals, inductions}
+use Rattle.nq_goals.specs.Spent.{IsFalse, normal}
+use Rattle.nq_waterfall.specs.declared.trail.Ancestor.{Ancestor}
+use Rattle.nq_waterfall.specs.Trails.{above_at}
+use Rattle.nq_waterfall.specs.Turns.{SpentAt}
+use Rattle.nq_stuck.specs.Left.{IsLeftToGroups}
+use Rattle.nq_legal.specs.Candidates.{HasNoneOfThree}
+use Rattle.nq_legal.specs.Leaving.{IsFreeAt, IsStuck, IsToInduct}
+
+free_none : (o : Option Term) (gs : List Clause) → o ≡ None → hinted_term o gs ≡ []
+free_none None gs e = refl
+free_none (Some t) gs e = absurd cc
+
+free_some : (o : Option Term) (gs : List Clause) → 0 < length gs → hinted_term o gs ≡ []
+free_some None gs k = refl
+free_some (Some t) [] k = absurd (omega (arith, k))
+free_some (Some t) (g ∷ gs) k = refl
+
+-- without a hint, or below an induction, no hint says how the next one goes
+pub unhinted : (bank : Content) (hints : Hints) (path : List Ancestor) → hints.induct ≡ None → IsFreeAt bank hints path
+unhinted bank hints path e = free_none (hints_at bank hints).induct (inducted_goals (above_at bank path)) (ap (option_map (term_at bank)) e)
+
+pub below_induction : (bank : Content) (hints : Hints) (path : List Ancestor) → 0 < inductions (above_at bank path) → IsFreeAt bank hints path
+below_induction bank hints path k = free_some (hints_at bank hints).induct (inducted_goals (above_at bank path)) k
+
+-- what is not told to be there is not there
+pub none_suggest : (ts : List Term) (answer : Bool) → answer ≡ false → (IsTrue answer ↔ (ts ≡ [] → ⊥)) → ts ≡ []
+none_suggest [] answer e k = refl
+none_suggest (t ∷ ts) answer e k = absurd (apart answer e (k.1 (λ f. absurd cc)))
+  where
+    apart : (b : Bool) → b ≡ false → b ≡ true → ⊥
+    apart true e t = absurd cc
+    apart false e t = absurd cc
+
+module _ (bank : Content) (history : List Entry) (hints : Hints) (path : List Ancestor) (goal : List TermId) (free : IsFreeAt bank hints path) where
+  no_hint : hinted_call (events_at bank history) (hints_at bank hints) (above_at bank path) ≡ []
+  no_hint = ap (suggesting_among (events_at bank history)) free
+
+  free_suggestions : suggestions (events_at bank history) (hints_at bank hints) (above_at bank path) (terms_at bank goal) ≡ suggesting_in (events_at bank history) (terms_at bank goal)
+  free_suggestions = ap (λ (ts : List Term). ts ++ suggesting_in (events_at bank history) (terms_at bank goal)) no_hint
+
+  free_calls : scheme_calls (events_at bank history) (hints_at bank hints) (above_at bank path) (terms_at bank goal) ≡ suggesting_in (events_at bank history) (terms_at bank goal)
+  free_calls = ap (λ (ts : List Term). hinted_or ts (suggesting_in (events_at bank history) (terms_at bank goal))) no_hint
+
+  module _ (stuck : IsStuck bank history hints goal) where
+    pub left_for_want : suggesting_in (events_at bank history) (terms_at bank goal) ≡ [] → SpentAt bank history hints path goal causes.NoInduction
+    left_for_want e = record { form = normal stuck.normal; holds = (stuck.none, free_suggestions ∙ e); first = (stuck.not_false, tt) }
+
+    module _ (suggested : suggesting_in (events_at bank history) (terms_at bank goal) ≡ [] → ⊥) where
+      pub left_in_loop : IsSubsumed (above_at bank path) (terms_at bank goal) → SpentAt bank history hints path goal causes.Loop
+      left_in_loop s = record { form = normal stuck.normal; holds = (stuck.none, s); first = (stuck.not_false, ((λ k. suggested (sym free_suggestions ∙ k.1)), tt)) }
+
+      module _ (new : IsSubsumed (above_at bank path) (terms_at bank goal) → ⊥) where
+        pub left_forbidden : hints.no_induct ≡ true → SpentAt bank history hints path goal causes.Forbidden
+        left_forbidden e =
+            record { form = normal stuck.normal; holds = (stuck.none, e); first = (stuck.not_false, ((λ k. suggested (sym free_suggestions ∙ k.1)), ((λ k. new k.1), tt))) }
+
+        module _ (allowed : hints.no_induct ≡ false) where
+          pub left_deep : induction_limit ≤ inductions (above_at bank path) → SpentAt bank history hints path goal causes.Depth
+          left_deep k =
+              record {
+                form = normal stuck.normal;
+                holds = (stuck.none, k);
+                first = (stuck.not_false, ((λ j. suggested (sym free_suggestions ∙ j.1)), ((λ j. new j.1), ((λ j. absurd (apart hints.no_induct allowed j.1)), tt))));
+              }
+            where
+              apart : (b : Bool) → b ≡ false → b ≡ true → ⊥
+              apart true e t = absurd cc
+              apart false e t = absurd cc
+
+          pub to_induct : inductions (above_at bank path) < induction_limit → IsToInduct bank history hints path goal
+          to_induct k = record { starts = record { allowed = allowed; due = no_candidate stuck.none; no_loop = new; not_deep = k }; calls = free_calls }
+
+-- no goal above subsumes the goal
+pub not_told : (b : Bool) (P : Type 0) → b ≡ false → (IsTrue b ↔ P) → P → ⊥
+not_told true P e k p = absurd cc
+not_told false P e k p = absurd (never (k.1 p))
+  where
+    never : false ≡ true → ⊥
+    never e = absurd cc
+
+-- a goal that is left to IRR and induction is stuck where IRR has no candidate
+pub stuck_if : (bank : Content) (history : List Entry) (hints : Hints) (goal : List TermId) (r : Result Bool AllocError) → (IsFalse (events_at bank history) (terms_at bank goal) → ⊥) → HasNoneOfThree (events_at bank history) (terms_at bank goal) →
+    IfOk r (λ b. b ≡ true → IsLeftToGroups (events_at bank history) (hints_at bank hints) (terms_at bank goal)) → IfOk r (λ b. b ≡ true → IsStuck bank history hints goal)
+stuck_if bank history hints goal (Ok b) not_false three k = λ e.
+    let groups : IsLeftToGroups (events_at bank history) (hints_at bank hints) (terms_at bank goal) = k e in
+    record {
+      normal = groups.normal;
+      not_false = not_false;
+      none = record {
+        no_substituting = groups.none.no_substituting;
+        no_eliminating = groups.none.no_eliminating;
+        no_fertilizing = groups.none.no_fertilizing;
+        no_generalizing = groups.none.no_generalizing;
+        no_dropping = three.no_dropping;
+      };
+    }
+stuck_if bank history hints goal (Err e) not_false three k = k

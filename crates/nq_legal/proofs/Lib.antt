@@ -1,0 +1,9 @@
+pub mod AboveLemmas
+pub mod FormLemmas
+pub mod PlainLemmas
+pub mod LeavingLemmas
+pub mod MovingLemmas
+pub mod SimplifyingLemmas
+pub mod InductingLemmas
+pub mod ClosingLemmas
+pub mod TurningLemmas

@@ -1,0 +1,13 @@
+-- Goals in which moves have no candidate.
+use Rattle.std.specs.Prelude.{◌≡◌, List, []}
+use Rattle.nq_logic.specs.Terms.{Term}
+use Rattle.nq_logic.specs.Histories.{History}
+use Rattle.nq_goals.specs.Dropping.{droppings_of}
+use Rattle.nq_goals.specs.Fertilizing.{fertilizings_of}
+use Rattle.nq_goals.specs.Substituting.{substitutions_of}
+
+-- no candidate of SUBST, FERT or IRR
+pub record HasNoneOfThree (h : History) (goal : List Term) : Type 0 where
+  pub no_substituting : substitutions_of goal ≡ []
+  pub no_fertilizing : fertilizings_of goal ≡ []
+  pub no_dropping : droppings_of h goal ≡ []

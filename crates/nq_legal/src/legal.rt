@@ -1,0 +1,254 @@
+//! The legal mover.
+ghost use Rattle.std.specs.Prelude.{◌≡◌, All, IfOk, IfSome, Err};
+ghost use Rattle.nq_bank.specs.Content.{terms_at};
+ghost use Rattle.nq_history.specs.Events.{events_at};
+ghost use Rattle.nq_kernel.specs.Growing.{WorkGrows};
+ghost use Rattle.nq_waterfall.specs.Ready.{CanMove, IsGoalIn};
+ghost use Rattle.nq_waterfall.specs.Trails.{AncestorStands};
+ghost use Rattle.nq_waterfall.specs.Turns.{IsTurn};
+ghost use Rattle.nq_lines.specs.Lines.{LineHasOnly};
+ghost use Rattle.nq_legal.specs.Forms.{IsForm};
+ghost use Rattle.nq_legal.specs.Leaving.{IsStuck};
+ghost use Rattle.nq_legal.specs.Legal.{IsWay};
+ghost use Rattle.nq_legal.specs.Candidates.{HasNoneOfThree};
+ghost use Rattle.nq_legal.specs.Turning.{turn_of};
+ghost use Rattle.nq_legal.specs.declared.form.Form.TheVariants.{Normal};
+
+use crate::closer::Closer;
+use crate::closing::close_way;
+use crate::form::{Form, form_of};
+use crate::inducting::{Inductor, induct_on};
+use crate::leaving::{Left, left_over};
+use crate::moving::move_on;
+use crate::simplifying::simplify;
+use crate::stuck::is_stuck;
+use crate::way::Way;
+use nq_bank::TermId;
+use nq_history::{Hints, History};
+use nq_kernel::{Cause, Stop, Work};
+use nq_simplify::Rewriter;
+use nq_waterfall::laws::holding;
+use nq_waterfall::{Ancestor, Lead, Mover, Turn};
+
+/// Moves goals by legal moves alone.
+#[derive(Clone, Copy)]
+pub struct Legal<C, R, I> {
+    /// What closes goals before they are moved.
+    pub closer: C,
+    /// What rewrites the literals of goals.
+    pub rewriter: R,
+    /// What finds inductions.
+    pub inductor: I,
+}
+
+/// The goal is led on, where a lead is found.
+fn turn_of(found: Option<Lead<Way>>) -> Turn<Way>
+    ensures { result ≡ turn_of found }
+{
+    match found {
+        Some(lead) => Turn::Led(lead),
+        None => Turn::Unknown,
+    }
+}
+
+/// Leads a goal on by an induction, or leaves it over, in which no move has a candidate.
+fn lead_stuck<I: Inductor>(
+    work: &mut Work,
+    inductor: &mut I,
+    history: &History,
+    hints: &Hints,
+    path: &[Ancestor],
+    goal: &[TermId],
+) -> Result<Turn<Way>, Stop>
+    requires ready { CanMove history.now hints.now work.old }
+    requires path { All (AncestorStands work.old.bank) path.now }
+    requires goal { IsGoalIn history.now work.old goal.now }
+    requires stuck { IsStuck work.old.bank history.now hints.now goal.now }
+    ensures turn { IfOk result (IsTurn IsWay history.now hints.now work.new path.now goal.now) }
+    ensures grows { WorkGrows history.now work.old work.new }
+    ensures out { result ≡ Err Stop.OutOfSteps → work.new.counter.used ≡ work.new.counter.limit }
+{
+    match left_over(&work.bank, history, hints, path, goal) {
+        Ok(Left::Over(cause)) => Ok(Turn::Spent(cause)),
+        Ok(Left::ToInduction) => {
+            let found = induct_on(work, inductor, history, hints, path, goal)?;
+            Ok(turn_of(found))
+        }
+        Ok(Left::ToHint) => Ok(Turn::Unknown),
+        Err(_) => Err(Stop::Memory),
+    }
+}
+
+/// Leads a goal on, in which SUBST, FERT and IRR have no candidate.
+fn lead_unmoved<I: Inductor>(
+    work: &mut Work,
+    inductor: &mut I,
+    history: &History,
+    hints: &Hints,
+    path: &[Ancestor],
+    goal: &[TermId],
+) -> Result<Turn<Way>, Stop>
+    requires ready { CanMove history.now hints.now work.old }
+    requires path { All (AncestorStands work.old.bank) path.now }
+    requires goal { IsGoalIn history.now work.old goal.now }
+    requires form { IsForm work.old.bank history.now hints.now path.now goal.now Normal }
+    requires none { HasNoneOfThree (events_at work.old.bank history.now) (terms_at work.old.bank goal.now) }
+    ensures turn { IfOk result (IsTurn IsWay history.now hints.now work.new path.now goal.now) }
+    ensures grows { WorkGrows history.now work.old work.new }
+    ensures out { result ≡ Err Stop.OutOfSteps → work.new.counter.used ≡ work.new.counter.limit }
+{
+    match is_stuck(&work.bank, history, hints, goal) {
+        Ok(true) => lead_stuck(work, inductor, history, hints, path, goal),
+        Ok(false) => Ok(Turn::Unknown),
+        Err(_) => Err(Stop::Memory),
+    }
+}
+
+/// Leads a goal on that is in normal form and not false.
+fn lead_normal<I: Inductor>(
+    work: &mut Work,
+    inductor: &mut I,
+    history: &History,
+    hints: &Hints,
+    path: &[Ancestor],
+    goal: &[TermId],
+) -> Result<Turn<Way>, Stop>
+    requires ready { CanMove history.now hints.now work.old }
+    requires path { All (AncestorStands work.old.bank) path.now }
+    requires goal { IsGoalIn history.now work.old goal.now }
+    requires form { IsForm work.old.bank history.now hints.now path.now goal.now Normal }
+    ensures turn { IfOk result (IsTurn IsWay history.now hints.now work.new path.now goal.now) }
+    ensures grows { WorkGrows history.now work.old work.new }
+    ensures out { result ≡ Err Stop.OutOfSteps → work.new.counter.used ≡ work.new.counter.limit }
+{
+    holding();
+    match move_on(work, history, hints, goal)? {
+        Some(lead) => Ok(Turn::Led(lead)),
+        None => lead_unmoved(work, inductor, history, hints, path, goal),
+    }
+}
+
+/// Leads a goal on that is not in normal form.
+fn lead_other<R: Rewriter>(
+    work: &mut Work,
+    rewriter: &mut R,
+    history: &History,
+    hints: &Hints,
+    path: &[Ancestor],
+    goal: &[TermId],
+) -> Result<Turn<Way>, Stop>
+    requires ready { CanMove history.now hints.now work.old }
+    requires goal { IsGoalIn history.now work.old goal.now }
+    ensures turn { IfOk result (IsTurn IsWay history.now hints.now work.new path.now goal.now) }
+    ensures grows { WorkGrows history.now work.old work.new }
+    ensures out { result ≡ Err Stop.OutOfSteps → work.new.counter.used ≡ work.new.counter.limit }
+{
+    let _ = path.len();
+    let found = simplify(work, history, hints, rewriter, goal)?;
+    Ok(turn_of(found))
+}
+
+impl<C: Closer, R: Rewriter, I: Inductor> Legal<C, R, I> {
+    /// A line that closes a goal below others, where one is found. A first goal is moved at once.
+    fn close_below(
+        &mut self,
+        work: &mut Work,
+        history: &History,
+        hints: &Hints,
+        path: &[Ancestor],
+        goal: &[TermId],
+    ) -> Result<Option<u64>, Stop>
+        requires ready { CanMove history.now hints.now work.old }
+        requires goal { IsGoalIn history.now work.old goal.now }
+        ensures line { IfOk result (λ found. IfSome found (λ n. LineHasOnly work.new n (terms_at work.new.bank goal.now))) }
+        ensures grows { WorkGrows history.now work.old work.new }
+        ensures out { result ≡ Err Stop.OutOfSteps → work.new.counter.used ≡ work.new.counter.limit }
+    {
+        if path.is_empty() {
+            Ok(None)
+        } else {
+            self.closer.close(work, history, hints, goal)
+        }
+    }
+
+    /// Leads a goal of this form on, or leaves it over.
+    fn lead_by_form(
+        &mut self,
+        work: &mut Work,
+        history: &History,
+        hints: &Hints,
+        path: &[Ancestor],
+        goal: &[TermId],
+        form: Form,
+    ) -> Result<Turn<Way>, Stop>
+        requires ready { CanMove history.now hints.now work.old }
+        requires path { All (AncestorStands work.old.bank) path.now }
+        requires goal { IsGoalIn history.now work.old goal.now }
+        requires form { IsForm work.old.bank history.now hints.now path.now goal.now form }
+        ensures turn { IfOk result (IsTurn IsWay history.now hints.now work.new path.now goal.now) }
+        ensures grows { WorkGrows history.now work.old work.new }
+        ensures out { result ≡ Err Stop.OutOfSteps → work.new.counter.used ≡ work.new.counter.limit }
+    {
+        match form {
+            Form::Falsity => Ok(Turn::Spent(Cause::False)),
+            Form::Normal => lead_normal(work, &mut self.inductor, history, hints, path, goal),
+            Form::Other => lead_other(work, &mut self.rewriter, history, hints, path, goal),
+        }
+    }
+
+    /// Leads a goal on, or leaves it over, which was not closed.
+    fn lead_open(
+        &mut self,
+        work: &mut Work,
+        history: &History,
+        hints: &Hints,
+        path: &[Ancestor],
+        goal: &[TermId],
+    ) -> Result<Turn<Way>, Stop>
+        requires ready { CanMove history.now hints.now work.old }
+        requires path { All (AncestorStands work.old.bank) path.now }
+        requires goal { IsGoalIn history.now work.old goal.now }
+        ensures turn { IfOk result (IsTurn IsWay history.now hints.now work.new path.now goal.now) }
+        ensures grows { WorkGrows history.now work.old work.new }
+        ensures out { result ≡ Err Stop.OutOfSteps → work.new.counter.used ≡ work.new.counter.limit }
+    {
+        holding();
+        match form_of(work, history, hints, path, goal) {
+            Ok(form) => self.lead_by_form(work, history, hints, path, goal, form),
+            Err(_) => Err(Stop::Memory),
+        }
+    }
+}
+
+impl<C: Closer, R: Rewriter, I: Inductor> Mover for Legal<C, R, I> {
+    type Way = Way;
+
+    ghost is_way = { IsWay };
+
+    fn lead(
+        &mut self,
+        work: &mut Work,
+        history: &History,
+        hints: &Hints,
+        path: &[Ancestor],
+        goal: &[TermId],
+    ) -> Result<Turn<Way>, Stop> {
+        holding();
+        match self.close_below(work, history, hints, path, goal)? {
+            Some(line) => Ok(Turn::Closed(line)),
+            None => self.lead_open(work, history, hints, path, goal),
+        }
+    }
+
+    fn close(
+        &mut self,
+        work: &mut Work,
+        history: &History,
+        hints: &Hints,
+        goal: &[TermId],
+        lead: &Lead<Way>,
+        lines: &[u64],
+    ) -> Result<Option<u64>, Stop> {
+        close_way(work, history, goal, lead.nexts.as_slice(), &lead.way, lines)
+    }
+}
