@@ -145,10 +145,29 @@ def add1_number(t):
 
 DIFFERENCES = [named["difference_of_zero"], named["difference_with_zero"], named["difference_of_positives"]]
 
+def one_less_is_no_more():
+    at_zero = [named["sub1_of_zero"], LESS[0], named["nothing_less_than_zero"]]
+    return by_size("(NOT (LESSP X (SUB1 X)))", "X", {}, [], ["(ZEROP (SUB1 X))"], lemmas=ENDS + [IRREFLEXIVE], rules=at_zero + [L.inst(LESS[1], {"Y": R("(SUB1 X)")})])
+
+def one_less_is_enough():
+    return cases([R("(NOT (LESSP (ADD1 (SUB1 X)) X))")], ["(ZEROP X)"], lemmas=ENDS + [IRREFLEXIVE], rules=[LESS[0], named["add1_of_sub1"]])
+
+def less_is_more_than_one_less():
+    how = dict(lemmas=ENDS, rules=[*LESS, named["sub1_of_zero"], at_zero(LESS[2], {"X": ZERO})])
+    line = by_size("(IF (LESSP X Y) (LESSP (SUB1 X) Y) T)", "X", {"Y": R("(SUB1 Y)")}, ["(ZEROP Y)"], ["(ZEROP Y)", "(ZEROP (SUB1 X))"], **how)
+    return as_clause(line, "(NOT (LESSP X Y)) | (LESSP (SUB1 X) Y)")
+
+def difference_is_no_more():
+    below = L.inst(less_is_more_than_one_less(), {"Y": R("(DIFFERENCE (SUB1 X) (SUB1 Y))")})
+    return by_both("(NOT (LESSP X (DIFFERENCE X Y)))", lemmas=ENDS + [IRREFLEXIVE, below], rules=[*DIFFERENCES, named["nothing_less_than_zero"]])
+
 def differences():
     """one less than a number, and differences"""
     yield "one_less_of_positive", under_more(named["add1_of_sub1"])
     yield "one_less_of_zero", L.cut(positive_is_more(), named["sub1_of_zero"], ZX)
+    yield "one_less_is_no_more", one_less_is_no_more()
+    yield "one_less_is_enough", one_less_is_enough()
+    yield "difference_is_no_more", difference_is_no_more()
     sums = [named["sum_at_zero"], named["sum_at_positive"], *FIXES]
     s2 = add1_number(R("(PLUS X Y)"))
     left = rule("(ZEROP X) | (EQUAL (LESSP (ADD1 (PLUS A B)) X) (LESSP (PLUS A B) (SUB1 X)))", rules=[named["add1_is_not_zero"], s2], opens=[R("(LESSP (ADD1 (PLUS A B)) X)")])

@@ -73,6 +73,9 @@ fact_line_in history work f h = record { term = h.term; line = holds_stands work
 pub instance_pushed : (history : List Entry) (work : Work) (fs all : List Fact) (f : Fact) → all ≡ fs ++ f ∷ [] → All (IsLine history work) fs → IsFact history work f → All (IsLine history work) all
 instance_pushed history work fs all f is h k = subst (All (IsLine history work)) (sym is) (All-push (IsLine history work) fs f h (fact_line_in history work f k))
 
+pub line_pushed : (history : List Entry) (work : Work) (fs all : List Fact) (f : Fact) → all ≡ fs ++ f ∷ [] → All (IsLine history work) fs → IsLine history work f → All (IsLine history work) all
+line_pushed history work fs all f is h k = subst (All (IsLine history work)) (sym is) (All-push (IsLine history work) fs f h k)
+
 -- an argument of a term that is in
 pub argument_in : (history : List Entry) (work : Work) (t : TermId) (ids : List TermId) (i : ℕ) (d : TermId) → IsTermIn history work t → terms_at work.bank ids ≡ parts_of (term_at work.bank t) → All (λ a. a.0 < t.0) ids → i < length ids → IsTermIn history work (get_or ids i d)
 argument_in history work t ids i d h tells earlier below =

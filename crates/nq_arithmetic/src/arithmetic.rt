@@ -17,6 +17,7 @@ use crate::reading::{Operands, is_call_of, operands_of};
 use crate::refuting::refuted;
 use crate::resolving::resolved;
 use crate::templates::COMPARISON;
+use crate::told::with_told;
 use nq_bank::{TermId, ground};
 use nq_history::{Hints, History};
 use nq_kernel::{Stop, Work};
@@ -176,16 +177,18 @@ fn by_facts(
     with_facts(work, history, goal, assumptions.as_slice())
 }
 
-/// The line of a goal with facts by lemmas too, where lemmas speak of its terms.
+/// The line of a goal with what is told and with facts by lemmas too, where lemmas speak of its terms.
 fn by_lemmas(
     work: &mut Work,
     history: &History,
     hints: &Hints,
     goal: &[TermId],
+    told: &[Fact],
 ) -> Result<Option<u64>, Stop>
     requires stands { WorkStands history.now work.old }
     requires ready { HasOwnTerms (events_at work.old.bank history.now) }
     requires goal { All (IsTermIn history.now work.old) goal.now }
+    requires told { All (IsLine history.now work.old) told.now }
     ensures line { IfOk result (λ found. IfSome found (λ n. LineHasOnly work.new n (terms_at work.old.bank goal.now))) }
     ensures grows { WorkGrows history.now work.old work.new }
     ensures out { result ≡ Err Stop.OutOfSteps → work.new.counter.used ≡ work.new.counter.limit }
@@ -194,19 +197,23 @@ fn by_lemmas(
     if instances.len() == 0 {
         return Ok(None);
     }
-    by_facts(work, history, goal, instances.as_slice())
+    let all = with_told(work, history, told, instances.as_slice())?;
+    by_facts(work, history, goal, all.as_slice())
 }
 
 /// A line that has only literals of a goal, by linear arithmetic: of its literals as they are, together with facts about the
-/// terms in it by laws, and for an equation of two numbers by comparing them. None is found under NO-BUILT-IN-ARITH.
+/// terms in it by laws and with what is told of them, and for an equation of two numbers by comparing them. None is found under
+/// NO-BUILT-IN-ARITH.
 pub fn arithmetic_line(
     work: &mut Work,
     history: &History,
     hints: &Hints,
     goal: &[TermId],
+    told: &[Fact],
 ) -> Result<Option<u64>, Stop>
     requires stands { WorkStands history.now work.old }
     requires goal { All (IsTermIn history.now work.old) goal.now }
+    requires told { All (IsLine history.now work.old) told.now }
     ensures line { IfOk result (λ found. IfSome found (λ n. LineHasOnly work.new n (terms_at work.old.bank goal.now))) }
     ensures grows { WorkGrows history.now work.old work.new }
     ensures out { result ≡ Err Stop.OutOfSteps → work.new.counter.used ≡ work.new.counter.limit }
@@ -216,7 +223,7 @@ pub fn arithmetic_line(
     }
     match refuted(work, history, goal)? {
         Some(line) => Ok(checked(work, history, goal, line)),
-        None => by_facts(work, history, goal, &[]),
+        None => by_facts(work, history, goal, told),
     }
 }
 
@@ -226,10 +233,12 @@ pub fn arithmetic_line_by_lemmas(
     history: &History,
     hints: &Hints,
     goal: &[TermId],
+    told: &[Fact],
 ) -> Result<Option<u64>, Stop>
     requires stands { WorkStands history.now work.old }
     requires ready { HasOwnTerms (events_at work.old.bank history.now) }
     requires goal { All (IsTermIn history.now work.old) goal.now }
+    requires told { All (IsLine history.now work.old) told.now }
     ensures line { IfOk result (λ found. IfSome found (λ n. LineHasOnly work.new n (terms_at work.old.bank goal.now))) }
     ensures grows { WorkGrows history.now work.old work.new }
     ensures out { result ≡ Err Stop.OutOfSteps → work.new.counter.used ≡ work.new.counter.limit }
@@ -237,8 +246,8 @@ pub fn arithmetic_line_by_lemmas(
     if hints.no_arith {
         return Ok(None);
     }
-    match arithmetic_line(work, history, hints, goal)? {
+    match arithmetic_line(work, history, hints, goal, told)? {
         Some(line) => Ok(Some(line)),
-        None => by_lemmas(work, history, hints, goal),
+        None => by_lemmas(work, history, hints, goal, told),
     }
 }

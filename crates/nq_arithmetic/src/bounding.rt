@@ -11,7 +11,7 @@ use crate::hypotheses::conclusion_in;
 use crate::matching::add_matches;
 use crate::reading::{is_call_of, operands_of, terms_in};
 use crate::triggers::trigger_of;
-use nq_bank::{Sym, TermId, ground};
+use nq_bank::{Bank, Node, Sym, TermId, ground};
 use nq_history::{Class, Entry, EntryKind, Hints, History};
 use nq_kernel::{Stop, Work};
 use nq_lines::Fact;
@@ -91,7 +91,40 @@ fn is_comparison(work: &Work, history: &History, t: TermId) -> bool
         || is_sum_equation(work, history, t)
 }
 
-/// Does a lemma lead to a comparison of numbers, or to the NOT of one?
+/// Is a term an equation with 0?
+fn is_zero_equation(work: &Work, history: &History, t: TermId) -> bool
+    requires stands { WorkStands history.now work.now }
+    requires term { IsTermIn history.now work.now t }
+{
+    if !is_call_of(&work.bank, t, ground::EQUAL) {
+        return false;
+    }
+    match operands_of(work, history, t) {
+        Some(sides) => is_zero(&work.bank, sides.second),
+        None => false,
+    }
+}
+
+/// Is a term 0?
+fn is_zero(bank: &Bank, t: TermId) -> bool
+    requires { Stands bank.now t }
+{
+    match bank.node(t) {
+        Node::Num(n) => n == 0,
+        Node::Var(_) => false,
+        Node::App(_, _) => false,
+    }
+}
+
+/// Does the NOT of a term say something about numbers?
+fn is_denied_bound(work: &Work, history: &History, t: TermId) -> bool
+    requires stands { WorkStands history.now work.now }
+    requires term { IsTermIn history.now work.now t }
+{
+    is_call_of(&work.bank, t, ground::LESSP) || is_zero_equation(work, history, t)
+}
+
+/// Does a lemma lead to a comparison of numbers, or to the NOT of one, or of an equation with 0?
 fn is_bound(work: &Work, history: &History, rule: TermId) -> bool
     requires stands { WorkStands history.now work.now }
     requires rule { IsTermIn history.now work.now rule }
@@ -101,7 +134,7 @@ fn is_bound(work: &Work, history: &History, rule: TermId) -> bool
         return is_comparison(work, history, conclusion);
     }
     match operands_of(work, history, conclusion) {
-        Some(at) => is_call_of(&work.bank, at.first, ground::LESSP),
+        Some(at) => is_denied_bound(work, history, at.first),
         None => false,
     }
 }

@@ -1,5 +1,5 @@
 //! Linear arithmetic over a goal: its literals are refuted, alone or together with facts about the terms that stand in them.
-//! A fact comes from a law of arithmetic, or is the conclusion of an instance of a lemma of the history.
+//! A fact comes from a law of arithmetic, is the conclusion of an instance of a lemma of the history, or is told by the caller.
 //!
 //! What is tried decides nothing: a line is built from what was found, and it counts where each of its literals is one of the
 //! goal's.
@@ -36,6 +36,7 @@ mod triggers;
 // the facts about a goal
 mod assumptions;
 mod gathering;
+mod told;
 
 // the line of a goal
 mod arithmetic;
@@ -47,3 +48,5 @@ mod kinds;
 
 pub use arithmetic::{arithmetic_line, arithmetic_line_by_lemmas};
 pub use kinds::kind_line;
+pub use numbers::is_number_by_law;
+pub use reading::terms_in;

@@ -75,6 +75,13 @@ pub fn number_law(bank: &Bank, t: TermId) -> Option<ArithmeticLaw>
     }
 }
 
+/// Does a law of arithmetic say that a term is a number? That of `(PLUS X Y)` does, and none of a variable.
+pub fn is_number_by_law(bank: &Bank, t: TermId) -> bool
+    requires { Stands bank.now t }
+{
+    number_law(bank, t).is_some()
+}
+
 /// The arguments of a term; of one that has none, the term itself.
 fn operands_or_whole(work: &Work, history: &History, t: TermId) -> Operands
     requires stands { WorkStands history.now work.now }

@@ -304,3 +304,28 @@ pub const EQUAL_LESSP_X_Y_TRUTH: Pattern = Pattern {
     ],
     denied: false,
 };
+
+/// `(NOT (LESSP X (SUB1 X)))`.
+pub const NOT_LESSP_X_SUB1_X: Pattern = Pattern {
+    makes: &[Make::One(One::Sub1, X), Make::Two(Two::Lessp, X, FIRST)],
+    denied: true,
+};
+
+/// `(NOT (LESSP (ADD1 (SUB1 X)) X))`.
+pub const NOT_LESSP_ADD1_SUB1_X_X: Pattern = Pattern {
+    makes: &[
+        Make::One(One::Sub1, X),
+        Make::One(One::Add1, FIRST),
+        Make::Two(Two::Lessp, SECOND, X),
+    ],
+    denied: true,
+};
+
+/// `(NOT (LESSP X (DIFFERENCE X Y)))`.
+pub const NOT_LESSP_X_DIFFERENCE_X_Y: Pattern = Pattern {
+    makes: &[
+        Make::Two(Two::Difference, X, Y),
+        Make::Two(Two::Lessp, X, FIRST),
+    ],
+    denied: true,
+};

@@ -5,9 +5,10 @@ use crate::patterns::{
     EQUAL_COUNT_CONS_X_Y_ADD1_PLUS_COUNT_X_COUNT_Y, EQUAL_COUNT_X_X, EQUAL_LESSP_X_Y_TRUTH,
     EQUAL_SUB1_X_ZERO, EQUAL_TIMES_X_Y_PLUS_Y_TIMES_SUB1_X_Y, EQUAL_X_Y, EQUAL_X_ZERO,
     EQUAL_ZERO_Y, LESSP_COUNT_CAR_X_COUNT_X, LESSP_COUNT_CDR_X_COUNT_X, LESSP_REMAINDER_X_Y_Y,
-    LESSP_X_Y, LESSP_Y_X, LESSP_ZERO_X, LESSP_ZERO_Y, LISTP_X, NOT_LESSP_FIX_X_X,
-    NOT_LESSP_PLUS_Y_DIFFERENCE_X_Y_X, NOT_LESSP_X_FIX_X, NOT_LESSP_X_PLUS_Y_DIFFERENCE_X_Y,
-    NOT_LESSP_X_REMAINDER_X_Y, NOT_LESSP_X_Y, NOT_LESSP_ZERO_DIFFERENCE_X_Y, NOT_LESSP_ZERO_X,
+    LESSP_X_Y, LESSP_Y_X, LESSP_ZERO_X, LESSP_ZERO_Y, LISTP_X, NOT_LESSP_ADD1_SUB1_X_X,
+    NOT_LESSP_FIX_X_X, NOT_LESSP_PLUS_Y_DIFFERENCE_X_Y_X, NOT_LESSP_X_DIFFERENCE_X_Y,
+    NOT_LESSP_X_FIX_X, NOT_LESSP_X_PLUS_Y_DIFFERENCE_X_Y, NOT_LESSP_X_REMAINDER_X_Y,
+    NOT_LESSP_X_SUB1_X, NOT_LESSP_X_Y, NOT_LESSP_ZERO_DIFFERENCE_X_Y, NOT_LESSP_ZERO_X,
     NOT_LESSP_ZERO_Y, NOT_LISTP_X, NOT_NUMBERP_X, NOT_NUMBERP_Y, NOT_ORD_LESSP_X_Y, NOT_ZEROP_X,
     NUMBERP_X, ORD_LESSP_X_Y, ZEROP_X,
 };
@@ -18,6 +19,27 @@ use nq_number_laws::{InductiveLaw, PlainLaw};
 
 /// The facts, each at a call of its function.
 pub const TEMPLATES: &[Template] = &[
+    Template {
+        outer: ground::SUB1,
+        inner: None,
+        guards: &[],
+        fact: NOT_LESSP_X_SUB1_X,
+        law: ArithmeticLaw::Inductive(InductiveLaw::OneLessIsNoMore),
+    },
+    Template {
+        outer: ground::SUB1,
+        inner: None,
+        guards: &[],
+        fact: NOT_LESSP_ADD1_SUB1_X_X,
+        law: ArithmeticLaw::Inductive(InductiveLaw::OneLessIsEnough),
+    },
+    Template {
+        outer: ground::DIFFERENCE,
+        inner: None,
+        guards: &[],
+        fact: NOT_LESSP_X_DIFFERENCE_X_Y,
+        law: ArithmeticLaw::Inductive(InductiveLaw::DifferenceIsNoMore),
+    },
     Template {
         outer: ground::SUB1,
         inner: None,

@@ -87,6 +87,15 @@ fn forms_nest_to_500_levels(rt: HostRuntime) -> Result<(), Fail> {
 fn a_failing_source_is_told(rt: HostRuntime) -> Result<(), Fail> {
     let found = count_forms(rt.alloc(), b"(A)\n(B)\n(C)", 4, 3)?;
     assert_eq!(rt; found, (2, Some(ReadFault::Read)));
+    let cut = count_forms(rt.alloc(), b"(A) B", 100, 2)?;
+    assert_eq!(rt; cut, (1, Some(ReadFault::Read)), "the symbol may go on");
+    Ok(())
+}
+
+#[test]
+fn a_source_is_not_asked_again_behind_its_end(rt: HostRuntime) -> Result<(), Fail> {
+    let found = count_forms(rt.alloc(), b"(A) B", 100, 3)?;
+    assert_eq!(rt; found, (2, None));
     Ok(())
 }
 

@@ -28,9 +28,8 @@ use Rattle.nq_block.proofs.Spelling.{run_read}
 use Rattle.nq_log.specs.Logs.{step, claimed}
 use Rattle.nq_log.proofs.Options.{bound, found_same}
 use Rattle.nq_block.specs.declared.writer.Writer.{Writer}
-use Rattle.nq_block.specs.Blocks.{IsBlock}
 use Rattle.nq_block.specs.Closings.{IsFree, CanAssume, CanShow, CanDefine, CanToggle}
-use Rattle.nq_block.specs.Writing.{Frame, state_of, line_clause, IsWriting, IsWritten, IsVariableWritten, AddsLine, number_in}
+use Rattle.nq_block.specs.Writing.{IsDraft, Frame, state_of, line_clause, IsWriting, IsWritten, IsVariableWritten, AddsLine, number_in}
 use Rattle.nq_block.proofs.Leading.{leads_out}
 use Rattle.nq_block.proofs.Named.{spelled_name, of_events, event_named}
 use Rattle.nq_block.proofs.RuleLemmas.{after, term_number, term_fits, names_found, names_fit}
@@ -71,18 +70,18 @@ module _ (bank : Content) (frame : Frame) (old new : Writer) (v : IsWriting bank
       ∙ ap (λ b. b && not (is_in_use x frame.history)) can.room
       ∙ ap not can.unused
 
-  pub closed : (line : Line) (c : Claim) → IsSpellable line → step s line ≡ Some (Claims c) → AddsLine line old new → IsBlock frame.history c new.text
+  pub closed : (line : Line) (c : Claim) → IsSpellable line → step s line ≡ Some (Claims c) → AddsLine line old new → IsDraft frame.history c new.text
   closed line c spellable taken adds =
-      subst (IsBlock frame.history c) (sym (ap (λ (w : Writer). w.text) adds)) (leads_out old.text s line c v.leads spellable taken)
+      subst (IsDraft frame.history c) (sym (ap (λ (w : Writer). w.text) adds)) (leads_out old.text s line c v.leads spellable taken)
 
   claimed_when : (b : Bool) (c : Claim) → b ≡ true → claimed (only_when b c) ≡ Some (Claims c)
   claimed_when b c e = ap (λ b. claimed (only_when b c)) e
 
-  pub bootstrap_closed : AddsLine (after word.BootStrap []) old new → IsBlock frame.history Grounded new.text
+  pub bootstrap_closed : AddsLine (after word.BootStrap []) old new → IsDraft frame.history Grounded new.text
   bootstrap_closed adds = closed (after word.BootStrap []) Grounded tt (claimed_when (is_plain s.block) Grounded plain) adds
 
   pub lemma_closed : (x : Name) (t : TermId) (l n : ℕ) → l < 2 ^ 64 → IsWritten old t → n ≡ number_in old.terms t.0 → CanShow frame.history x (term_at bank t) (line_clause frame l) →
-      AddsLine (after word.Lemma (name x ∷ number n ∷ number l ∷ [])) old new → IsBlock frame.history (Adds (Lemma x [] (term_at bank t))) new.text
+      AddsLine (after word.Lemma (name x ∷ number n ∷ number l ∷ [])) old new → IsDraft frame.history (Adds (Lemma x [] (term_at bank t))) new.text
   lemma_closed x t l n fits written same can adds =
       let k : ℕ = number_in old.terms t.0 in
       let u : Term = term_at bank t in
@@ -96,7 +95,7 @@ module _ (bank : Content) (frame : Frame) (old new : Writer) (v : IsWriting bank
       (subst (λ n. AddsLine (after word.Lemma (name x ∷ number n ∷ number l ∷ [])) old new) same adds)
 
   pub axiom_closed : (x : Name) (t : TermId) (n : ℕ) → IsWritten old t → n ≡ number_in old.terms t.0 → CanAssume frame.history x (term_at bank t) →
-      AddsLine (after word.Axiomatize (name x ∷ number n ∷ [])) old new → IsBlock frame.history (Adds (Axiom x [] (term_at bank t))) new.text
+      AddsLine (after word.Axiomatize (name x ∷ number n ∷ [])) old new → IsDraft frame.history (Adds (Axiom x [] (term_at bank t))) new.text
   axiom_closed x t n written same can adds =
       let k : ℕ = number_in old.terms t.0 in
       let u : Term = term_at bank t in
@@ -108,7 +107,7 @@ module _ (bank : Content) (frame : Frame) (old new : Writer) (v : IsWriting bank
       closed (after word.Axiomatize (name x ∷ number k ∷ [])) c (can.free.symbol, (term_fits bank frame old v t written, tt)) taken
       (subst (λ n. AddsLine (after word.Axiomatize (name x ∷ number n ∷ [])) old new) same adds)
 
-  pub declaration_closed : (x : Name) (k : ℕ) → k < 2 ^ 32 → IsFree frame.history x → AddsLine (after word.Dcl (name x ∷ number k ∷ [])) old new → IsBlock frame.history (Adds (Declaration x k)) new.text
+  pub declaration_closed : (x : Name) (k : ℕ) → k < 2 ^ 32 → IsFree frame.history x → AddsLine (after word.Dcl (name x ∷ number k ∷ [])) old new → IsDraft frame.history (Adds (Declaration x k)) new.text
   declaration_closed x k fits can adds =
       let c : Claim = Adds (Declaration x k) in
       let taken : step s (after word.Dcl (name x ∷ number k ∷ [])) ≡ Some (Claims c) =
@@ -127,7 +126,7 @@ module _ (bank : Content) (frame : Frame) (old new : Writer) (v : IsWriting bank
   looked_up_spelled x found = let e = found_event x (all_events frame.history) found in spelled_name frame.history x v.names (event_named x (all_events frame.history) e.0 e.1)
 
   pub toggle_closed : (x old_name : Name) (disabled : Bool) (d : ℕ) → d ≡ digit disabled → CanToggle frame.history x old_name →
-      AddsLine (after word.Toggle (name x ∷ name old_name ∷ number d ∷ [])) old new → IsBlock frame.history (Adds (Toggle x old_name disabled)) new.text
+      AddsLine (after word.Toggle (name x ∷ name old_name ∷ number d ∷ [])) old new → IsDraft frame.history (Adds (Toggle x old_name disabled)) new.text
   toggle_closed x y disabled d same can adds =
       let fields = λ (d : ℕ). name x ∷ name y ∷ number d ∷ [] in
       let c : Claim = Adds (Toggle x y disabled) in
@@ -146,7 +145,7 @@ module _ (bank : Content) (frame : Frame) (old new : Writer) (v : IsWriting bank
       small true = omega arith
       small false = omega arith
 
-  pub undo_closed : (x : Name) → is_some (event_in x frame.history) ≡ true → AddsLine (after word.Undo (name x ∷ [])) old new → IsBlock frame.history (Undoes x) new.text
+  pub undo_closed : (x : Name) → is_some (event_in x frame.history) ≡ true → AddsLine (after word.Undo (name x ∷ [])) old new → IsDraft frame.history (Undoes x) new.text
   undo_closed x found adds =
       let c : Claim = Undoes x in
       let taken : step s (after word.Undo (name x ∷ [])) ≡ Some (Claims c) =
@@ -156,7 +155,7 @@ module _ (bank : Content) (frame : Frame) (old new : Writer) (v : IsWriting bank
 
   pub definition_closed : (x : Name) (names : List Sym) (t : TermId) (n : ℕ) (ns : List ℕ) → IsWritten old t → n ≡ number_in old.terms t.0 → All (IsVariableWritten old) names → ns ≡ map (λ s. number_in old.variables s.0) names →
       CanDefine frame.history x (texts_at bank names) (term_at bank t) → AddsLine (after word.Defn (name x ∷ number n ∷ flat_map one_number ns)) old new →
-      IsBlock frame.history (Adds (Defines (record { function = x; formals = texts_at bank names; body = term_at bank t; measure = None }))) new.text
+      IsDraft frame.history (Adds (Defines (record { function = x; formals = texts_at bank names; body = term_at bank t; measure = None }))) new.text
   definition_closed x names t n ns written same_body all_written same_formals can adds =
       let k : ℕ = number_in old.terms t.0 in
       let ms : List ℕ = map (λ s. number_in old.variables s.0) names in

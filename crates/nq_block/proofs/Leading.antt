@@ -8,8 +8,7 @@ use Rattle.nq_log.specs.States.{Block, State, Claim, start_of, Continues, Claims
 use Rattle.nq_log.specs.Logs.{step}
 use Rattle.nq_log.specs.Blocks.{lines_text}
 use Rattle.nq_log.proofs.Growing.{one_more_line_law, closing_line_law, more_text_law}
-use Rattle.nq_block.specs.Blocks.{IsBlock}
-use Rattle.nq_block.specs.Writing.{LeadsTo, line_text}
+use Rattle.nq_block.specs.Writing.{IsDraft, LeadsTo, line_text}
 
 pub leads_first : (h : History) → LeadsTo [] (start_of h)
 leads_first h = record { lines = []; spellable = tt; state = refl; reads = refl }
@@ -30,7 +29,7 @@ leads_on text s line block w spellable taken =
 
 -- a closing line makes them a block
 pub leads_out : (text : List ℕ) (s : State) (line : Line) (c : Claim) → LeadsTo text s → IsSpellable line →
-    step s line ≡ Some (Claims c) → IsBlock s.history c (text ++ line_text line)
+    step s line ≡ Some (Claims c) → IsDraft s.history c (text ++ line_text line)
 leads_out text s line c w spellable taken =
     record {
       lines = w.lines ++ (line ∷ []);

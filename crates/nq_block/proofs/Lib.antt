@@ -19,3 +19,4 @@ pub mod ShellLemmas
 pub mod BlockLemmas
 pub mod OpenLaws
 pub mod SymbolLaws
+pub mod DroppedBlocks

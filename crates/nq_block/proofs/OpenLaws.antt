@@ -12,10 +12,11 @@ use Rattle.nq_log.specs.Growing.{history_after}
 use Rattle.nq_log.proofs.Growing.{one_more_block_law, more_text_law}
 use Rattle.nq_log.proofs.Texts.{one_log_law}
 use Rattle.nq_log.proofs.RuleClasses.{steps_ignore_classes_law}
+use Rattle.nq_drops.specs.Drops.{IsDropped}
 use Rattle.nq_block.specs.OpenLogs.{joined, end_text, IsOpenLog, LogBegins, BlockFollows, LogEnds}
 
 pub log_begins_law : LogBegins
-log_begins_law = record { blocks = []; spellable = tt; reads = refl; claimed = refl; makes = refl }
+log_begins_law = record { blocks = []; spellable = tt; reads = refl; claimed = refl; dropped = tt; makes = refl }
 
 -- rule classes change nothing of what a block claims
 abbrev claim_by : State → List Line → Option Step → Option Claim
@@ -60,6 +61,7 @@ block_follows_law text more claims h g c log block same =
           ∙ sym (more_text_law (header_line ∷ joined log.blocks) block.lines)
           ∙ ap (λ lines. lines_text (header_line ∷ lines)) (sym (joined_more log.blocks block.lines));
       claimed = one_more_block_law [] log.blocks claims block.lines c log.claimed there;
+      dropped = each_append IsDropped log.blocks (block.lines ∷ []) log.dropped (block.dropped, tt);
       makes = history_more [] claims c ∙ ap (λ k. after_claim k c) log.makes;
     }
 
@@ -75,4 +77,11 @@ text_ends text claims h log =
     ∙ ap (λ lines. lines_text (header_line ∷ lines)) (lines_end log.blocks)
 
 pub log_ends_law : LogEnds
-log_ends_law text claims h log = ap reading_of (text_ends text claims h log) ∙ one_log_law log.blocks claims log.spellable log.claimed
+log_ends_law text claims h log =
+    record {
+      reads = ap reading_of (text_ends text claims h log) ∙ one_log_law log.blocks claims log.spellable log.claimed;
+      blocks = log.blocks;
+      whole = text_ends text claims h log;
+      claimed = log.claimed;
+      dropped = log.dropped;
+    }

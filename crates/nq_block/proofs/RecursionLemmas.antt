@@ -30,10 +30,9 @@ use Rattle.nq_log.specs.ClosingLines.{has_room, introduces, are_falls, is_measur
 use Rattle.nq_log.specs.Logs.{step, continued, claimed}
 use Rattle.nq_block.specs.declared.writer.Writer.{Writer}
 use Rattle.nq_block.specs.Names.{HasSymbols}
-use Rattle.nq_block.specs.Blocks.{IsBlock}
 use Rattle.nq_block.specs.declared.closing.Closing.{Closing}
 use Rattle.nq_block.specs.Closings.{AreFalls, CanRecur, introduced_by}
-use Rattle.nq_block.specs.Writing.{Frame, state_of, line_clause, frame_at_start, IsNew, IsNewFunction, IsFresh, IsWriting, LeadsTo, AddsLine, line_text, function_line, measure_line}
+use Rattle.nq_block.specs.Writing.{IsDraft, Frame, state_of, line_clause, frame_at_start, IsNew, IsNewFunction, IsFresh, IsWriting, LeadsTo, AddsLine, line_text, function_line, measure_line}
 use Rattle.nq_block.proofs.Leading.{leads_first, leads_on, leads_out}
 use Rattle.nq_block.proofs.NewFunction.{not_mentioned}
 use Rattle.nq_block.proofs.Spelling.{run_read, run_spelled}
@@ -207,8 +206,8 @@ module _ (bank : Content) (frame : Frame) (old mid new : Writer) (v : IsWriting 
 
   -- the block, where the definition's line follows that of its measure
   pub definition_closed : (n k : ℕ) (ns : List ℕ) → frame.introduced ≡ Some (x, length xs) → frame.parts ≡ [] → frame.cases ≡ [] → block_term_at s.block k ≡ Some measure → block_term_at s.block n ≡ Some body → variables_at s.block ns ≡ Some xs →
-      n < 2 ^ 64 → HasKinds (of_number ∷ []) [] (flat_map one_number ns) → LeadsTo mid.text (measured k) → AddsLine (after word.Defn (name x ∷ number n ∷ flat_map one_number ns)) mid new → IsBlock frame.history claim new.text
+      n < 2 ^ 64 → HasKinds (of_number ∷ []) [] (flat_map one_number ns) → LeadsTo mid.text (measured k) → AddsLine (after word.Defn (name x ∷ number n ∷ flat_map one_number ns)) mid new → IsDraft frame.history claim new.text
   definition_closed n k ns introduced parts cases found found_body found_names n_fits ns_fit leads adds =
       let line = after word.Defn (name x ∷ number n ∷ flat_map one_number ns) in
-      subst (IsBlock frame.history claim) (sym (ap (λ (w : Writer). w.text) adds))
+      subst (IsDraft frame.history claim) (sym (ap (λ (w : Writer). w.text) adds))
       (leads_out mid.text (measured k) line claim leads (can.free.symbol, (n_fits, ns_fit)) (definition_taken n k ns introduced parts cases found found_body found_names))

@@ -22,9 +22,8 @@ use Rattle.nq_log.specs.Fields.{names_in}
 use Rattle.nq_log.specs.ClosingLines.{restriction_of, has_room, is_shell_ok, base_of}
 use Rattle.nq_log.specs.Logs.{step, continued, claimed}
 use Rattle.nq_block.specs.declared.writer.Writer.{Writer}
-use Rattle.nq_block.specs.Blocks.{IsBlock}
 use Rattle.nq_block.specs.Closings.{IsPartSpelled, IsBaseSpelled, CanAdd}
-use Rattle.nq_block.specs.Writing.{Frame, block_of, state_of, with_part, IsWriting, AddsLine, line_text, base_text}
+use Rattle.nq_block.specs.Writing.{IsDraft, Frame, block_of, state_of, with_part, IsWriting, AddsLine, line_text, base_text}
 use Rattle.nq_block.proofs.Leading.{leads_on, leads_out}
 use Rattle.nq_block.proofs.RuleLemmas.{after}
 use Rattle.nq_block.proofs.ClosingLines.{nothing_waits}
@@ -80,7 +79,7 @@ module _ (bank : Content) (frame : Frame) (old new : Writer) (v : IsWriting bank
       subst (IsWriting bank (with_part frame part)) (sym adds) grown
 
   pub shell_closed : (shell : Shell) → frame.introduced ≡ None → frame.parts ≡ shell.parts → frame.cases ≡ [] → CanAdd frame.history shell →
-      AddsLine (after word.Shell (name shell.constructor ∷ name (base_text shell.base) ∷ name shell.recognizer ∷ [])) old new → IsBlock frame.history (Adds (AddShell shell)) new.text
+      AddsLine (after word.Shell (name shell.constructor ∷ name (base_text shell.base) ∷ name shell.recognizer ∷ [])) old new → IsDraft frame.history (Adds (AddShell shell)) new.text
   shell_closed shell alone parts cases can adds =
       let line = after word.Shell (name shell.constructor ∷ name (base_text shell.base) ∷ name shell.recognizer ∷ []) in
       let c : Claim = Adds (AddShell shell) in
@@ -94,7 +93,7 @@ module _ (bank : Content) (frame : Frame) (old new : Writer) (v : IsWriting bank
       ∙ ap (λ (w : List CaseLine). claimed (only_when (is_empty w && has_room frame.history && is_shell_ok frame.history shell) c)) none
       ∙ ap (λ b. claimed (only_when (b && is_shell_ok frame.history shell) c)) can.room
       ∙ ap (λ b. claimed (only_when b c)) can.accepted in
-      subst (IsBlock frame.history c) (sym (ap (λ (w : Writer). w.text) adds)) (leads_out old.text s line c v.leads (can.constructor_spelled, (base_spelled shell.base can.base_spelled, (can.recognizer_spelled, tt))) taken)
+      subst (IsDraft frame.history c) (sym (ap (λ (w : Writer). w.text) adds)) (leads_out old.text s line c v.leads (can.constructor_spelled, (base_spelled shell.base can.base_spelled, (can.recognizer_spelled, tt))) taken)
     where
       base_is : (b : Option Name) → IsBaseSpelled b → base_of (base_text b) ≡ b
       base_is None spelled = refl

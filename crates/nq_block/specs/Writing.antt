@@ -30,16 +30,15 @@ use Rattle.nq_history.specs.declared.entry.Entry.{Entry}
 use Rattle.nq_history.specs.Events.{events_at}
 use Rattle.nq_kernel.specs.declared.rule.Line.{Line}
 use Rattle.nq_kernel.specs.Over.{IsTermOf, RuleIsOver, pair_names, IsVariable}
-use Rattle.nq_log.specs.States.{CaseLine, Block, State, start_of, numbered, clause_at, introduced_symbols}
+use Rattle.nq_log.specs.States.{CaseLine, Block, State, Claim, start_of, numbered, clause_at, introduced_symbols}
 use Rattle.nq_log.specs.Sizes.{are_shallow}
 use Rattle.nq_log.specs.RuleLines.{grouped, are_without}
-use Rattle.nq_log.specs.Blocks.{lines_text}
+use Rattle.nq_log.specs.Blocks.{block_claim, lines_text}
 use Rattle.nq_log.specs.Growing.{state_after_lines}
 use Rattle.nq_block.specs.declared.writer.Writer.{Writer}
 use Rattle.nq_block.specs.declared.closing.Closing.{Closing}
 use Rattle.nq_block.specs.declared.closing.Measured.{Measured}
 use Rattle.nq_block.specs.Names.{HasSymbols}
-use Rattle.nq_block.specs.Blocks.{IsBlock}
 use Rattle.nq_block.specs.Closings.{claim_at, defined_at, recursion_at, introduced_by, IsFree, CanDefine, CanRecur, CanCloseAfter}
 
 -- numbers by places
@@ -125,6 +124,13 @@ pub record LeadsTo (text : List ℕ) (s : State) : Type 0 where
   pub lines : List grammar.Line
   pub spellable : Each IsSpellable lines
   pub state : state_after_lines (start_of s.history) lines ≡ Some s
+  pub reads : text ≡ lines_text lines
+
+-- the text is that of a block's lines that end in this claim, before DROP lines are put among them
+pub record IsDraft (h : History) (c : Claim) (text : List ℕ) : Type 0 where
+  pub lines : List grammar.Line
+  pub spellable : Each IsSpellable lines
+  pub claims : block_claim (start_of h) lines ≡ Some c
   pub reads : text ≡ lines_text lines
 
 -- each number is that of what stands at its place
@@ -250,17 +256,17 @@ base_text (Some b) = b
 abbrev pub WritesDefinition : Content → Writer → Result (Unit {0}) AllocError → Writer → Sym → List Sym → TermId → Type 0
 WritesDefinition bank old result new name formals body =
     (frame : Frame) → IsWriting bank frame old → frame.introduced ≡ None → frame.parts ≡ [] → frame.cases ≡ [] → CanDefine frame.history (text_at bank name) (texts_at bank formals) (term_at bank body) →
-    OnOk result (IsBlock frame.history (defined_at bank name formals body) new.text)
+    OnOk result (IsDraft frame.history (defined_at bank name formals body) new.text)
 
 -- The lines of a recursive definition and its measure were written after such a block, which introduces the function.
 abbrev pub WritesRecursion : Content → Writer → Result (Unit {0}) AllocError → Writer → Sym → List Sym → TermId → Measured → Type 0
 WritesRecursion bank old result new name formals body measured =
     (frame : Frame) → IsWriting bank frame old → frame.introduced ≡ Some (text_at bank name, length (texts_at bank formals)) → frame.parts ≡ [] → frame.cases ≡ [] →
     CanRecur frame.history (line_clause frame) (text_at bank name) (texts_at bank formals) (term_at bank body) (term_at bank measured.measure) measured.ordinal measured.falls.items →
-    OnOk result (IsBlock frame.history (recursion_at bank name formals body measured.measure) new.text)
+    OnOk result (IsDraft frame.history (recursion_at bank name formals body measured.measure) new.text)
 
 -- The closing line was written after a block without parts and cases that introduces what it defines, where it may stand.
 abbrev pub WritesClosing : Content → Writer → Result (Unit {0}) AllocError → Writer → Closing → Type 0
 WritesClosing bank old result new closing =
     (frame : Frame) → IsWriting bank frame old → frame.introduced ≡ introduced_by bank closing → frame.parts ≡ [] → frame.cases ≡ [] → CanCloseAfter bank frame.history (line_clause frame) closing →
-    OnOk result (IsBlock frame.history (claim_at bank closing) new.text)
+    OnOk result (IsDraft frame.history (claim_at bank closing) new.text)

@@ -16,6 +16,7 @@ ghost use Rattle.nq_block.specs.Writing.{IsCounted, IsWriting, WritesRule, frame
 use crate::closing::Closing;
 use crate::writer::Writer;
 use nq_bank::Bank;
+use nq_drops::write_dropped;
 use nq_history::History;
 use nq_kernel::{Log, Rule};
 use nq_logtext::{LogLine, Text, Version, write_line};
@@ -71,8 +72,8 @@ impl Writer {
 /// Writes the block of an event: the lines of a log that was begun for it, with the terms that they use, and the closing line.
 ///
 /// Each term is written once, its parts before it, just before the first line that uses it; the lines keep their numbers. The
-/// line of a function that calls itself stands before them all. It
-/// fails only for want of memory, and then nothing was written.
+/// line of a function that calls itself stands before them all. Each line that the closing line does not cite is dropped,
+/// directly after the last line that cites it. It fails only for want of memory, and then nothing was written.
 pub fn write_block(
     bank: &Bank,
     history: &History,
@@ -93,7 +94,7 @@ pub fn write_block(
     writer.begin(bank, closing)?;
     writer.rules(bank, history, log)?;
     writer.close(bank, closing)?;
-    out.extend_from_slice(writer.text.as_slice())
+    write_dropped(bank.alloc(), writer.text.as_slice(), out)
 }
 
 /// Adds a line.

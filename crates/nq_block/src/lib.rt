@@ -1,9 +1,10 @@
 //! The text of a log: the block of one event, from the lines of the kernel and the terms that they use.
 //!
 //! [`write_block`] writes a block: each term once, just before the first line that uses it, each line of the log in its
-//! order, and the closing line. Its contract says that the block is right and what it claims. The first line and the last
-//! of a whole log are written by [`write_header`] and [`write_end`], and by the law of [`open_log`] a first line, blocks and
-//! a last line are a right log, whose claims are those of the blocks.
+//! order, DROP lines, and the closing line. Its contract says that the block is right, what it claims, and that its DROP
+//! lines stand directly after the last use of each line. The first line and the last of a whole log are written by
+//! [`write_header`] and [`write_end`], and by the law of [`open_log`] a first line, blocks and a last line are a right log,
+//! whose claims are those of the blocks.
 #![tactic(auto)]
 
 ghost use Rattle.nq_block.specs.Names.{SymbolsBegin, SymbolsGrow, SymbolsStay};

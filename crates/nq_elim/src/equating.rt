@@ -36,7 +36,7 @@ fn fact_beside(
     ensures out { result ≡ Err Stop.OutOfSteps → work.new.counter.used ≡ work.new.counter.limit }
 {
     let more = with_first(work.bank.alloc(), t, goal)?;
-    match arithmetic_line(work, history, hints, more.as_slice())? {
+    match arithmetic_line(work, history, hints, more.as_slice(), &[])? {
         Some(line) => Ok(Some(Fact { term: t, line })),
         None => Ok(None),
     }

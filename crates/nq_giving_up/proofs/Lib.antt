@@ -1,2 +1,3 @@
 pub mod FailingLemmas
 pub mod Begun
+pub mod TracingLemmas

@@ -13,12 +13,13 @@ ghost use Rattle.nq_giving_up.specs.Failing.{IsFailing};
 use crate::giving_up::{GivenUp, give_up_by};
 use nq_bank::{Bank, TermId};
 use nq_history::{Hints, History};
-use nq_legal::{Legal, NoCloser, NoInductor};
+use nq_inductor::OneCase;
+use nq_legal::{Legal, NoCloser};
 use nq_literal::LiteralRewriter;
 use std::alloc::{AllocError, Global};
 
-/// What is told of a lemma by simplification, SUBST, FERT and IRR, in work that begins with no step used and may take so many. Of
-/// a lemma that needs another move nothing is told.
+/// What is told of a lemma by simplification, SUBST, FERT, IRR and inductions by one case, in work that begins with no step used and
+/// may take so many. Of a lemma that needs another move nothing is told.
 pub fn give_up(
     alloc: Global,
     bank: Bank,
@@ -39,7 +40,7 @@ pub fn give_up(
     let mut mover = Legal {
         closer: NoCloser,
         rewriter: LiteralRewriter { hints },
-        inductor: NoInductor,
+        inductor: OneCase,
     };
     give_up_by(alloc, bank, &mut mover, history, hints, goal, steps)
 }

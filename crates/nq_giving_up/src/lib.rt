@@ -10,5 +10,9 @@ mod giving_up;
 // the same by the legal mover
 mod legally;
 
+// the trace of a lemma that was proved
+mod tracing;
+
 pub use giving_up::{Failing, GivenUp, give_up_by};
 pub use legally::give_up;
+pub use tracing::trace_proof;

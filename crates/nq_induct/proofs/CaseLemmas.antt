@@ -20,7 +20,7 @@ use Rattle.nq_kernel.specs.Growing.{WorkStands, WorkGrows}
 use Rattle.nq_lines.specs.Lines.{AreAmong, IsTermIn, LineHasOnly}
 use Rattle.nq_lines.specs.Instances.{ArePairsIn}
 use Rattle.nq_lines.proofs.LineLemmas.{only_more, among_either}
-use Rattle.nq_lines.proofs.Among.{on_left, on_right}
+use Rattle.nq_lines.proofs.Among.{and_among, on_left, on_right}
 use Rattle.nq_induct.specs.declared.scheme.Case.{Case}
 use Rattle.nq_induct.specs.Claims.{any_of, GathersTo}
 use Rattle.nq_induct.specs.Schemes.{IsStepIn, IsCaseIn}
@@ -31,6 +31,10 @@ use Rattle.nq_lines.proofs.TermLemmas.{same_term_grown}
 -- the goal's literals before the hypotheses, and behind them
 pub turned_among : (c d : List Term) → AreAmong (c ++ d) (d ++ c)
 turned_among c d u m = elim (among_either u c d m) [ inl k ↦ on_right d c u k | inr k ↦ on_left d c u k ]
+
+-- the first goes before the last ones
+led_among : (n : Term) (c d : List Term) → AreAmong (n ∷ (c ++ d)) (c ++ (n ∷ d))
+led_among n c d = and_among n (c ++ d) (c ++ (n ∷ d)) (on_right c (n ∷ d) n (inl refl)) (λ u m. elim (among_either u c d m) [ inl k ↦ on_left c (n ∷ d) u k | inr k ↦ on_right c (n ∷ d) u (inr k) ])
 
 All-cons : {X : Type 0} (P : X → Type 0) (x : X) (xs : List X) → P x → All P xs → All P (x ∷ xs)
 All-cons P x xs here rest zero d below = here
@@ -76,8 +80,9 @@ module _ (history : List Entry) (w0 w1 : Work) (stands : WorkStands history w0) 
       let new : IsCaseIn history w1 measure case = case_grown history w0 w1 stands grows measure case m is in
       let p : Term = any_of goal in
       let denials : List Term = denied p (substitutions_at w0.bank case.steps.items) in
-      let hyps : List Term = not_term (term_at w0.bank case.test) ∷ denials in
-      let told : LineHasOnly w1 made.line (p ∷ hyps) = gathers hyps (only_more w0 line (hyps ++ goal) (goal ++ hyps) (turned_among hyps goal) h) in
+      let n : Term = not_term (term_at w0.bank case.test) in
+      let hyps : List Term = n ∷ denials in
+      let told : LineHasOnly w1 made.line (p ∷ hyps) = gathers hyps (only_more w0 line (n ∷ (goal ++ denials)) (goal ++ hyps) (led_among n goal denials) h) in
       let same : hyps ≡ not_term (term_at w1.bank made.test) ∷ denied p (substitutions_at w1.bank made.steps.items) =
       ap₂ (λ (t : Term) (ss : List Substitution). not_term t ∷ denied p ss)
       (sym (ap (term_at w1.bank) test ∙ same_term_grown history w0 w1 case.test grows is.test))

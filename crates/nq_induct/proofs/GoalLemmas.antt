@@ -84,12 +84,12 @@ all_first : {X : Type 0} (P : X → Type 0) (x : X) (xs : List X) → P x → Al
 all_first P x xs here rest zero d below = here
 all_first P x xs here rest (suc k) d below = rest k d (omega (arith, below))
 
--- the NOT of a test, hypotheses, and the literals of a goal
-pub whole_told : (bank : Content) (whole : List TermId) (q : TermId) (given hyps goal : List TermId) (t : Term) (c d : List Term) → whole ≡ q ∷ (given ++ goal) → given ≡ hyps → term_at bank q ≡ t → terms_at bank hyps ≡ c → terms_at bank goal ≡ d → terms_at bank whole ≡ t ∷ (c ++ d)
+-- the NOT of a test, the literals of a goal, and hypotheses
+pub whole_told : (bank : Content) (whole : List TermId) (q : TermId) (given hyps goal : List TermId) (t : Term) (c d : List Term) → whole ≡ q ∷ (goal ++ given) → given ≡ hyps → term_at bank q ≡ t → terms_at bank hyps ≡ c → terms_at bank goal ≡ d → terms_at bank whole ≡ t ∷ (d ++ c)
 whole_told bank whole q given hyps goal t c d e same test hs gs =
-    ap (terms_at bank) (e ∙ ap (λ (ids : List TermId). q ∷ (ids ++ goal)) same) ∙
-    ap₂ (λ (u : Term) (us : List Term). u ∷ us) test (terms_both bank hyps goal ∙ ap₂ (λ (us vs : List Term). us ++ vs) hs gs)
+    ap (terms_at bank) (e ∙ ap (λ (ids : List TermId). q ∷ (goal ++ ids)) same) ∙
+    ap₂ (λ (u : Term) (us : List Term). u ∷ us) test (terms_both bank goal hyps ∙ ap₂ (λ (us vs : List Term). us ++ vs) gs hs)
 
-pub whole_over : (history : List Entry) (work : Work) (whole : List TermId) (q : TermId) (given hyps goal : List TermId) → whole ≡ q ∷ (given ++ goal) → given ≡ hyps → IsTermIn history work q → AreTermsIn history work hyps → AreTermsIn history work goal → AreTermsIn history work whole
+pub whole_over : (history : List Entry) (work : Work) (whole : List TermId) (q : TermId) (given hyps goal : List TermId) → whole ≡ q ∷ (goal ++ given) → given ≡ hyps → IsTermIn history work q → AreTermsIn history work hyps → AreTermsIn history work goal → AreTermsIn history work whole
 whole_over history work whole q given hyps goal e same test hs gs =
-    subst (AreTermsIn history work) (sym (e ∙ ap (λ (ids : List TermId). q ∷ (ids ++ goal)) same)) (all_first (IsTermIn history work) q (hyps ++ goal) test (all_both (IsTermIn history work) hyps goal hs gs))
+    subst (AreTermsIn history work) (sym (e ∙ ap (λ (ids : List TermId). q ∷ (goal ++ ids)) same)) (all_first (IsTermIn history work) q (goal ++ hyps) test (all_both (IsTermIn history work) goal hyps gs hs))

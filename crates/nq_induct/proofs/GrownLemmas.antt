@@ -95,7 +95,7 @@ module _ (history : List Entry) (old new : Work) (stands : WorkStands history ol
 
   pub same_step_goal : (measure : TermId) (goal : List Term) (c : Case) → IsCaseIn history old measure c → step_goal new.bank goal c ≡ step_goal old.bank goal c
   same_step_goal measure goal c h =
-      ap₂ (λ (t : Term) (ss : List Substitution). not_term t ∷ (denied (any_of goal) ss ++ goal)) (same_term_grown history old new c.test grows h.test) (same_substitutions c.steps.items (pairs_of_case measure c h))
+      ap₂ (λ (t : Term) (ss : List Substitution). not_term t ∷ (goal ++ denied (any_of goal) ss)) (same_term_grown history old new c.test grows h.test) (same_substitutions c.steps.items (pairs_of_case measure c h))
 
   pub same_tests : (measure : TermId) (cases : List Case) → All (IsCaseIn history old measure) cases → tests_at new.bank cases ≡ tests_at old.bank cases
   same_tests measure [] h = refl

@@ -36,7 +36,7 @@ base_goal bank cases goal = tests_at bank cases ++ goal
 
 -- a case: its test holds, and the goal does at each of its substitutions
 abbrev pub step_goal : Content → List Term → Case → List Term
-step_goal bank goal c = not_term (term_at bank c.test) ∷ (hypotheses_of bank (any_of goal) c ++ goal)
+step_goal bank goal c = not_term (term_at bank c.test) ∷ (goal ++ hypotheses_of bank (any_of goal) c)
 
 -- the base case, and then each case of the scheme
 abbrev pub goals_at : Content → Scheme → List TermId → List (List Term)

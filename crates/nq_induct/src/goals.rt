@@ -135,20 +135,20 @@ fn step_of(
     whole_of(work.bank.alloc(), denied, hypotheses.as_slice(), goal)
 }
 
-/// The NOT of a test, hypotheses, and the literals of a goal.
+/// The NOT of a test, the literals of a goal, and hypotheses.
 fn whole_of(
     alloc: Global,
     denied: TermId,
     hypotheses: &[TermId],
     goal: &[TermId],
 ) -> Result<Vec<TermId>, Stop>
-    ensures literals { IfOk result (λ v. v.items ≡ denied ∷ (hypotheses.now ++ goal.now)) }
+    ensures literals { IfOk result (λ v. v.items ≡ denied ∷ (goal.now ++ hypotheses.now)) }
     ensures memory { result ≡ Err Stop.OutOfSteps → ⊥ }
 {
     let mut literals = Vec::new(alloc);
     add_literal(&mut literals, denied)?;
-    add_literals(&mut literals, hypotheses)?;
     add_literals(&mut literals, goal)?;
+    add_literals(&mut literals, hypotheses)?;
     Ok(literals)
 }
 

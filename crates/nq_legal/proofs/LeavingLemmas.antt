@@ -1,9 +1,10 @@
 -- Why goals are left over.
-use Rattle.std.proofs.Common.{◌≡◌, ◌<◌, ◌≤◌, Bool, true, false, Option, Some, None, List, [], ◌∷◌, ◌++◌, length, refl, sym, ap, ◌∙◌, arith}
-use Rattle.std.specs.Prelude.{◌↔◌, IsTrue, IfOk, Result, Ok, Err}
+use Rattle.std.proofs.Common.{◌≡◌, ◌<◌, ◌≤◌, Bool, true, false, Option, Some, None, List, [], ◌∷◌, ◌++◌, length, refl, sym, ap, subst, ◌∙◌, arith, lit<}
+use Rattle.std.specs.Prelude.{◌↔◌, IsTrue, IfOk, Result, Ok, Err, if◌then◌else◌}
 use Rattle.std.specs.declared.alloc.AllocError.{AllocError}
 use Rattle.std.specs.Option.{option_map}
-use Rattle.nq_logic.specs.Terms.{Term}
+use Rattle.nq_logic.specs.Terms.{Term, IsAmong}
+use Rattle.nq_events.specs.Inductions.{suggests_induction}
 use Rattle.nq_bank.specs.declared.node.TermId.{TermId}
 use Rattle.nq_bank.specs.Content.{Content, term_at, terms_at}
 use Rattle.nq_proof.specs.Clauses.{Clause}
@@ -21,7 +22,7 @@ use Rattle.nq_waterfall.specs.Trails.{above_at}
 use Rattle.nq_waterfall.specs.Turns.{SpentAt}
 use Rattle.nq_stuck.specs.Left.{IsLeftToGroups}
 use Rattle.nq_legal.specs.Candidates.{HasNoneOfThree}
-use Rattle.nq_legal.specs.Leaving.{IsFreeAt, IsStuck, IsToInduct}
+use Rattle.nq_legal.specs.Leaving.{IsFreeAt, IsHintedAt, IsStuck, IsToHint, IsToInduct}
 
 free_none : (o : Option Term) (gs : List Clause) → o ≡ None → hinted_term o gs ≡ []
 free_none None gs e = refl
@@ -38,6 +39,21 @@ unhinted bank hints path e = free_none (hints_at bank hints).induct (inducted_go
 
 pub below_induction : (bank : Content) (hints : Hints) (path : List Ancestor) → 0 < inductions (above_at bank path) → IsFreeAt bank hints path
 below_induction bank hints path k = free_some (hints_at bank hints).induct (inducted_goals (above_at bank path)) k
+
+-- before the first induction the hint says how it goes
+pub first_hinted : (bank : Content) (hints : Hints) (path : List Ancestor) (t : TermId) → hints.induct ≡ Some t → inductions (above_at bank path) ≡ 0 → IsHintedAt bank hints path t
+first_hinted bank hints path t e k = by_option (hints_at bank hints).induct (inducted_goals (above_at bank path)) (ap (option_map (term_at bank)) e) k
+  where
+    by_option : (o : Option Term) (gs : List Clause) → o ≡ Some (term_at bank t) → length gs ≡ 0 → hinted_term o gs ≡ term_at bank t ∷ []
+    by_option None gs e k = absurd cc
+    by_option (Some u) [] e k = ap (λ (v : Term). v ∷ []) (let same : u ≡ term_at bank t = cc in same)
+    by_option (Some u) (g ∷ gs) e k = absurd cc
+
+-- then there is none above
+none_above : (o : Option Term) (gs : List Clause) (t : Term) → hinted_term o gs ≡ t ∷ [] → gs ≡ []
+none_above None gs t e = absurd cc
+none_above (Some u) [] t e = refl
+none_above (Some u) (g ∷ gs) t e = absurd cc
 
 -- what is not told to be there is not there
 pub none_suggest : (ts : List Term) (answer : Bool) → answer ≡ false → (IsTrue answer ↔ (ts ≡ [] → ⊥)) → ts ≡ []
@@ -86,6 +102,32 @@ module _ (bank : Content) (history : List Entry) (hints : Hints) (path : List An
 
           pub to_induct : inductions (above_at bank path) < induction_limit → IsToInduct bank history hints path goal
           to_induct k = record { starts = record { allowed = allowed; due = no_candidate stuck.none; no_loop = new; not_deep = k }; calls = free_calls }
+
+module _ (bank : Content) (history : List Entry) (hints : Hints) (path : List Ancestor) (goal : List TermId) (call : TermId) (hinted : IsHintedAt bank hints path call) (suggests : suggests_induction (events_at bank history) (term_at bank call) ≡ true) (stuck : IsStuck bank history hints goal) where
+  the_hint : hinted_call (events_at bank history) (hints_at bank hints) (above_at bank path) ≡ term_at bank call ∷ []
+  the_hint = ap (suggesting_among (events_at bank history)) hinted ∙ ap (λ (b : Bool). if b then term_at bank call ∷ [] else []) suggests
+
+  no_inductions : inducted_goals (above_at bank path) ≡ []
+  no_inductions = none_above (hints_at bank hints).induct (inducted_goals (above_at bank path)) (term_at bank call) hinted
+
+  unsubsumed : IsSubsumed (above_at bank path) (terms_at bank goal) → ⊥
+  unsubsumed s = subst (IsAmong s.earlier) no_inductions s.inducted
+
+  some_suggestion : suggestions (events_at bank history) (hints_at bank hints) (above_at bank path) (terms_at bank goal) ≡ [] → ⊥
+  some_suggestion e = absurd (never (sym (ap (λ (ts : List Term). ts ++ suggesting_in (events_at bank history) (terms_at bank goal)) the_hint) ∙ e))
+    where
+      never : term_at bank call ∷ suggesting_in (events_at bank history) (terms_at bank goal) ≡ [] → ⊥
+      never e = absurd cc
+
+  pub hint_forbidden : hints.no_induct ≡ true → SpentAt bank history hints path goal causes.Forbidden
+  hint_forbidden e = record { form = normal stuck.normal; holds = (stuck.none, e); first = (stuck.not_false, ((λ k. some_suggestion k.1), ((λ k. unsubsumed k.1), tt))) }
+
+  pub to_hint : hints.induct ≡ Some call → hints.no_induct ≡ false → IsToHint bank history hints path goal call
+  to_hint is allowed = record {
+    hint = is;
+    starts = record { allowed = allowed; due = no_candidate stuck.none; no_loop = unsubsumed; not_deep = subst (λ (gs : List Clause). length gs < induction_limit) (sym no_inductions) (lit< tt) };
+    calls = ap (λ (ts : List Term). hinted_or ts (suggesting_in (events_at bank history) (terms_at bank goal))) the_hint;
+  }
 
 -- no goal above subsumes the goal
 pub not_told : (b : Bool) (P : Type 0) → b ≡ false → (IsTrue b ↔ P) → P → ⊥

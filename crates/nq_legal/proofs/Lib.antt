@@ -7,3 +7,4 @@ pub mod SimplifyingLemmas
 pub mod InductingLemmas
 pub mod ClosingLemmas
 pub mod TurningLemmas
+pub mod SuggestingLemmas

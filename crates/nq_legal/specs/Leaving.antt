@@ -1,7 +1,7 @@
 -- What becomes of a goal in which no move has a candidate.
-use Rattle.std.specs.Prelude.{◌≡◌, List, [], ⊤}
+use Rattle.std.specs.Prelude.{◌≡◌, List, [], ◌∷◌, Option, None, Some, ⊤}
 use Rattle.nq_bank.specs.declared.node.TermId.{TermId}
-use Rattle.nq_bank.specs.Content.{Content, terms_at}
+use Rattle.nq_bank.specs.Content.{Content, term_at, terms_at}
 use Rattle.nq_history.specs.declared.entry.Entry.{Entry}
 use Rattle.nq_history.specs.declared.hints.Hints.{Hints}
 use Rattle.nq_history.specs.Events.{events_at}
@@ -15,7 +15,7 @@ use Rattle.nq_waterfall.specs.declared.trail.Ancestor.{Ancestor}
 use Rattle.nq_waterfall.specs.Trails.{above_at}
 use Rattle.nq_waterfall.specs.Turns.{SpentAt}
 use Rattle.nq_legal.specs.declared.leaving.Left.{Left}
-use Rattle.nq_legal.specs.declared.leaving.Left.TheVariants.{Over, ToInduction, ToHint}
+use Rattle.nq_legal.specs.declared.leaving.Left.TheVariants.{Over, ToInduction, ToHint, Untold}
 
 -- it is in normal form and not false, and no move but an induction has a candidate in it
 pub record IsStuck (bank : Content) (history : List Entry) (hints : Hints) (goal : List TermId) : Type 0 where
@@ -32,8 +32,24 @@ pub record IsToInduct (bank : Content) (history : List Entry) (hints : Hints) (p
   pub starts : StartsInduction (events_at bank history) (hints_at bank hints) (above_at bank path) (terms_at bank goal)
   pub calls : scheme_calls (events_at bank history) (hints_at bank hints) (above_at bank path) (terms_at bank goal) ≡ suggesting_in (events_at bank history) (terms_at bank goal)
 
--- it is left over, or is to be led on by an induction; of a hinted one nothing is told
+-- a hint says that the next induction goes by this term
+abbrev pub IsHintedAt : Content → Hints → List Ancestor → TermId → Type 0
+IsHintedAt bank hints path t = hinted_term (hints_at bank hints).induct (inducted_goals (above_at bank path)) ≡ term_at bank t ∷ []
+
+-- the term by which a hint says that the next induction goes, if one does
+abbrev pub IsHintNow : Content → Hints → List Ancestor → Option TermId → Type 0
+IsHintNow bank hints path None = IsFreeAt bank hints path
+IsHintNow bank hints path (Some t) = (hints.induct ≡ Some t) × IsHintedAt bank hints path t
+
+-- an induction may start, by the call of the hint
+pub record IsToHint (bank : Content) (history : List Entry) (hints : Hints) (path : List Ancestor) (goal : List TermId) (call : TermId) : Type 0 where
+  pub hint : hints.induct ≡ Some call
+  pub starts : StartsInduction (events_at bank history) (hints_at bank hints) (above_at bank path) (terms_at bank goal)
+  pub calls : scheme_calls (events_at bank history) (hints_at bank hints) (above_at bank path) (terms_at bank goal) ≡ term_at bank call ∷ []
+
+-- it is left over, or is to be led on by an induction
 abbrev pub IsLeft : Content → List Entry → Hints → List Ancestor → List TermId → Left → Type 0
 IsLeft bank history hints path goal (Over cause) = SpentAt bank history hints path goal cause
 IsLeft bank history hints path goal ToInduction = IsToInduct bank history hints path goal
-IsLeft bank history hints path goal ToHint = ⊤
+IsLeft bank history hints path goal (ToHint call) = IsToHint bank history hints path goal call
+IsLeft bank history hints path goal Untold = ⊤

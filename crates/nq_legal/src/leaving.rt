@@ -1,14 +1,16 @@
 //! Why a goal is left over, in which no move has a candidate.
-ghost use Rattle.std.specs.Prelude.{◌≡◌, ◌≤◌, ◌<◌, [], true, false, All, IfOk};
+ghost use Rattle.std.specs.Prelude.{◌≡◌, ◌≤◌, ◌<◌, [], true, false, All, IfOk, Some};
 ghost use Rattle.nq_bank.specs.Content.{Content, Stands, terms_at};
 ghost use Rattle.nq_history.specs.Events.{events_at, HistoryStands};
+ghost use Rattle.nq_history.specs.Hints.{HintsStand};
 ghost use Rattle.nq_goals.specs.Inducting.{suggesting_in};
 ghost use Rattle.nq_goals.specs.Moves.{induction_limit};
 ghost use Rattle.nq_goals.specs.Paths.{inductions};
 ghost use Rattle.nq_waterfall.specs.Trails.{AncestorStands, above_at};
-ghost use Rattle.nq_legal.specs.Leaving.{IsFreeAt, IsLeft, IsStuck};
+ghost use Rattle.nq_legal.specs.Leaving.{IsFreeAt, IsHintNow, IsHintedAt, IsLeft, IsStuck};
 
 use crate::above::{inductions, is_subsumed};
+use crate::suggesting::suggests;
 use nq_bank::{Bank, TermId};
 use nq_history::{Hints, History};
 use nq_kernel::Cause;
@@ -26,17 +28,25 @@ pub enum Left {
     Over(Cause),
     /// It is to be led on by an induction that a call in it suggests.
     ToInduction,
-    /// It is to be led on by the induction of a hint, or is left over.
-    ToHint,
+    /// It is to be led on by an induction that this call of a hint suggests.
+    ToHint(TermId),
+    /// Nothing is told: the term of a hint is not known to suggest an induction. A lawful hint has one that does.
+    Untold,
 }
 
-/// Is there no hint for the next induction of the way down?
-fn is_free(hints: &Hints, path: &[Ancestor]) -> bool
-    ensures { (bank : Content) → result ≡ true → IsFreeAt bank hints.now path.now }
+/// The term of the hint by which the next induction of the way down goes: the first does, if there is one.
+fn hint_now(hints: &Hints, path: &[Ancestor]) -> Option<TermId>
+    ensures { (bank : Content) → IsHintNow bank hints.now path.now result }
 {
     match hints.induct {
-        None => true,
-        Some(_) => inductions(path) > 0,
+        None => None,
+        Some(call) => {
+            if inductions(path) == 0 {
+                Some(call)
+            } else {
+                None
+            }
+        }
     }
 }
 
@@ -99,6 +109,33 @@ fn left_free(
     }
 }
 
+/// The same, where a hint says how the next induction goes.
+fn left_hinted(
+    bank: &Bank,
+    history: &History,
+    hints: &Hints,
+    path: &[Ancestor],
+    goal: &[TermId],
+    call: TermId,
+) -> Result<Left, AllocError>
+    requires history { HistoryStands bank.now history.now }
+    requires call { Stands bank.now call }
+    requires stuck { IsStuck bank.now history.now hints.now goal.now }
+    requires hint { hints.now.induct ≡ Some call }
+    requires hinted { IsHintedAt bank.now hints.now path.now call }
+    ensures { IfOk result (IsLeft bank.now history.now hints.now path.now goal.now) }
+{
+    let _ = (path.len(), goal.len());
+    let suggested = suggests(bank, history, call)?;
+    if !suggested {
+        return Ok(Left::Untold);
+    }
+    if hints.no_induct {
+        return Ok(Left::Over(Cause::Forbidden));
+    }
+    Ok(Left::ToHint(call))
+}
+
 /// The first cause for which a goal is left over in which no move has a candidate; or else it is to be led on by an induction.
 pub fn left_over(
     bank: &Bank,
@@ -108,14 +145,14 @@ pub fn left_over(
     goal: &[TermId],
 ) -> Result<Left, AllocError>
     requires history { HistoryStands bank.now history.now }
+    requires hints { HintsStand bank.now hints.now }
     requires path { All (AncestorStands bank.now) path.now }
     requires goal { All (Stands bank.now) goal.now }
     requires stuck { IsStuck bank.now history.now hints.now goal.now }
     ensures { IfOk result (IsLeft bank.now history.now hints.now path.now goal.now) }
 {
-    if is_free(hints, path) {
-        left_free(bank, history, hints, path, goal)
-    } else {
-        Ok(Left::ToHint)
+    match hint_now(hints, path) {
+        None => left_free(bank, history, hints, path, goal),
+        Some(call) => left_hinted(bank, history, hints, path, goal, call),
     }
 }

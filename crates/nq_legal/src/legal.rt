@@ -17,7 +17,7 @@ ghost use Rattle.nq_legal.specs.declared.form.Form.TheVariants.{Normal};
 use crate::closer::Closer;
 use crate::closing::close_way;
 use crate::form::{Form, form_of};
-use crate::inducting::{Inductor, induct_on};
+use crate::inducting::{Inductor, induct_hinted, induct_on};
 use crate::leaving::{Left, left_over};
 use crate::moving::move_on;
 use crate::simplifying::simplify;
@@ -74,7 +74,11 @@ fn lead_stuck<I: Inductor>(
             let found = induct_on(work, inductor, history, hints, path, goal)?;
             Ok(turn_of(found))
         }
-        Ok(Left::ToHint) => Ok(Turn::Unknown),
+        Ok(Left::ToHint(call)) => {
+            let found = induct_hinted(work, inductor, history, hints, path, goal, call)?;
+            Ok(turn_of(found))
+        }
+        Ok(Left::Untold) => Ok(Turn::Unknown),
         Err(_) => Err(Stop::Memory),
     }
 }

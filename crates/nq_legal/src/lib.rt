@@ -30,6 +30,7 @@ mod stuck;
 
 // why a goal is left over
 mod leaving;
+mod suggesting;
 
 // induction
 mod inducting;

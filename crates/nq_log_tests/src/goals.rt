@@ -109,6 +109,7 @@ fn function_of(byte: u8) -> Option<Sym>
         b'-' => Some(ground::SUB1),
         b'.' => Some(ground::CONS),
         b'*' => Some(ground::PLUS),
+        b'@' => Some(ground::LISTP),
         b'S' => Some(ground::ASSOC),
         _ => None,
     }
@@ -117,7 +118,7 @@ fn function_of(byte: u8) -> Option<Sym>
 /// How many arguments the function has that a byte stands for.
 fn count_of(byte: u8) -> usize {
     match byte {
-        b'!' | b'$' | b'+' | b'-' => 1,
+        b'!' | b'$' | b'+' | b'-' | b'@' => 1,
         b'&' | b'|' | b'>' | b'=' | b'~' | b'.' | b'*' | b'S' => 2,
         b'?' => 3,
         _ => 0,

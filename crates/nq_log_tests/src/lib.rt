@@ -1,4 +1,4 @@
-//! Tests of the checker of logs and of the first pass, over what their crates make public. They stand in a crate of their own,
+//! Tests of the checker of logs, of the first pass and of the moves, over what their crates make public. They stand in a crate of their own,
 //! since a crate with tests is proved twice.
 //!
 //! Most are whole small logs with what is written for them.
@@ -33,3 +33,7 @@ mod axioms;
 mod goals;
 #[cfg(test)]
 mod quick;
+
+// goals with candidates of moves, and without
+#[cfg(test)]
+mod moves;

@@ -4,13 +4,14 @@ use Rattle.std.specs.Prelude.{All, Vec, Result, Ok, Err, IfOk}
 use Rattle.std.specs.declared.alloc.Global.{Global}
 use Rattle.nq_logic.specs.Terms.{IsAmong}
 use Rattle.nq_bank.specs.declared.node.TermId.{TermId}
-use Rattle.nq_bank.specs.Content.{Stands, terms_at}
+use Rattle.nq_bank.specs.Content.{Content, Stands, terms_at}
 use Rattle.nq_clause.specs.declared.substitution.Pair.{Pair}
 use Rattle.nq_clause.specs.Substitution.{substitution_at}
-use Rattle.nq_proof.specs.Clauses.{distinct}
+use Rattle.nq_proof.specs.Clauses.{Clause, distinct}
 use Rattle.nq_proof.specs.Rules.{pair_terms}
 use Rattle.nq_history.specs.declared.entry.Entry.{Entry}
 use Rattle.nq_kernel.specs.declared.work.Work.{Work}
+use Rattle.nq_kernel.specs.declared.work.Stop.{Stop}
 use Rattle.nq_kernel.specs.declared.verdict.MoveKind.TheVariants as kind
 use Rattle.nq_kernel.specs.Over.{pair_names}
 use Rattle.nq_lines.specs.Lines.{IsTermIn}
@@ -61,3 +62,8 @@ pub same_default : (xs : List TermId) (i : ℕ) (d e : TermId) → i < length xs
 same_default [] i d e below = absurd (omega (arith, below))
 same_default (x ∷ xs) zero d e below = refl
 same_default (x ∷ xs) (suc i) d e below = same_default xs i d e (omega (arith, below))
+
+-- the one goal of a move
+pub one_child_leads : (bank : Content) (r : Result Moved Stop) (child : Vec TermId Global) (c : Clause) → terms_at bank child.items ≡ c → IfOk r (λ m. m.children.items ≡ child ∷ []) → IfOk r (λ m. goals_at bank m.children.items ≡ c ∷ [])
+one_child_leads bank (Ok m) child c is only = ap (goals_at bank) only ∙ ap (λ x. x ∷ []) is
+one_child_leads bank (Err e) child c is only = only

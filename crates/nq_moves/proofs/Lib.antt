@@ -28,3 +28,4 @@ pub mod CrossedLemmas
 pub mod WayLemmas
 pub mod NamingLemmas
 pub mod GeneralizedLemmas
+pub mod NumberingLemmas

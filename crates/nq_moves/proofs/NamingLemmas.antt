@@ -75,7 +75,7 @@ or_second : (a b : Bool) → (a || b) ≡ false → b ≡ false
 or_second true b e = absurd cc
 or_second false b e = e
 
-free_in : (x : Name) (c : Clause) → occurs_in_one x c ≡ false → (t : Term) → IsAmong t c → occurs x t ≡ false
+pub free_in : (x : Name) (c : Clause) → occurs_in_one x c ≡ false → (t : Term) → IsAmong t c → occurs x t ≡ false
 free_in x [] e t m = absurd m
 free_in x (u ∷ c) e t (inl is) = ap (occurs x) is ∙ or_first (occurs x u) (occurs_in_one x c) e
 free_in x (u ∷ c) e t (inr m) = free_in x c (or_second (occurs x u) (occurs_in_one x c) e) t m

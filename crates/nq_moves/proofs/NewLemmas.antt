@@ -143,7 +143,7 @@ unused_same (suc n) k used other same =
     ap (λ b. if b then unused_from n (suc k) used else numbered k ∷ unused_from n (suc k) used) (same k least) ∙ ap (λ r. if has_name (numbered k) other then r else numbered k ∷ r) rest
 
 -- at most one is lost for each used name
-are_many : (n k : ℕ) (used : List Name) → n ≤ length (unused_from n k used) + length used
+pub are_many : (n k : ℕ) (used : List Name) → n ≤ length (unused_from n k used) + length used
 are_many zero k used = omega arith
 are_many (suc n) k used = by_test (are_many n (suc k) used) (are_many n (suc k) (without_name (numbered k) used)) (has_name (numbered k) used) refl
   where

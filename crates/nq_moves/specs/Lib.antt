@@ -13,3 +13,4 @@ pub mod Renamed
 pub mod Naming
 pub mod Ways
 pub mod OfTable
+pub mod Numbering

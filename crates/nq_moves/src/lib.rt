@@ -1,8 +1,8 @@
 //! The moves of the waterfall other than simplification and induction, and the ways back from the goals to which they lead.
 //!
 //! `substitute_move`, `fertilize_move` and `irrelevant_move` lead a goal on exactly where it has a candidate, and to the goals of a
-//! move of their kind (`specs/OfTable`), on every path and under all hints; `generalize_move` where the heuristics find something.
-//! From lines that have only literals of the goals to which a move led, `close_move` makes a line that has only literals of the goal.
+//! move of their kind (`specs/OfTable`), on every path and under all hints; `generalize_by` makes the goal of a GEN. From lines that
+//! have only literals of the goals to which a move led, `close_move` makes a line that has only literals of the goal.
 //! That this can be done is `IsWay` (`specs/Ways`), which lasts however the work grows (`laws::ways_last`); what is tried, and in
 //! which order, has no contract.
 //!
@@ -58,10 +58,10 @@ mod weighing;
 
 // new variables in the places of terms
 mod naming;
+mod numbering;
 mod renaming;
 
 // GEN
-mod common;
 mod generalizing;
 
 // the moves, and the ways back
@@ -70,14 +70,17 @@ mod ways;
 
 pub use back::{close_exchanged, other_side, rewrite_back, swap_by};
 pub use carrying::carry;
+pub use clauses::{distinct_clause, keep_unless};
+pub use counted::substitute_all;
 pub use crossing::close_swapped;
 pub use dropping::{close_left, drop_first};
 pub use equal::{Swap, equal_within, keep_equal, known_equal};
 pub use exchanging::{Exchanging, exchange_all, exchange_within, replacing};
 pub use fertile::fertilize_move;
-pub use generalizing::generalize_move;
+pub use generalizing::generalize_by;
 pub use moved::{Crossing, Moved, Why};
-pub use naming::{Numbered, Renaming, rename};
+pub use naming::{Renaming, rename, rename_new};
+pub use numbering::{Numbered, next_name};
 pub use readings::{Reading, reading_of};
 pub use renaming::{close_renamed, put_back};
 pub use standing::{stands_at, stands_in_these};

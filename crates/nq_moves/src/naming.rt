@@ -1,149 +1,24 @@
 //! New variables in the places of terms.
-ghost use Rattle.std.specs.Prelude.{◌≡◌, ◌≤◌, ◌++◌, ◌∷◌, [], ℕ, false, All, IfOk, IfSome, OnOk, IsTrue, Err};
+ghost use Rattle.std.specs.Prelude.{◌≡◌, ◌++◌, ◌∷◌, [], false, All, IfOk, IfSome, OnOk, IsTrue, Err, length};
 ghost use Rattle.nq_logic.specs.Values.{is_value};
-ghost use Rattle.nq_logic.specs.Shells.{digits_of};
-ghost use Rattle.nq_logic.specs.Terms.{Variable};
-ghost use Rattle.nq_bank.specs.Content.{Stands, IsNamed, IsIdOf, NamesText, text_at, term_at, terms_at};
-ghost use Rattle.nq_bank.specs.Parts.{occurs};
+ghost use Rattle.nq_logic.specs.Terms.{Name, Variable};
+ghost use Rattle.nq_bank.specs.Content.{IsNamed, IsIdOf, text_at, term_at, terms_at};
 ghost use Rattle.nq_clause.specs.Substitution.{PairStands, substitution_at};
-ghost use Rattle.nq_proof.specs.Rules.{is_substitution};
+ghost use Rattle.nq_proof.specs.Rules.{is_substitution, pair_terms};
 ghost use Rattle.nq_kernel.specs.Growing.{WorkStands, WorkGrows};
+ghost use Rattle.nq_kernel.specs.Over.{pair_names};
 ghost use Rattle.nq_lines.specs.Lines.{IsTermIn};
-ghost use Rattle.nq_goals.specs.NewVariables.{numbered};
+ghost use Rattle.nq_goals.specs.NewVariables.{clause_variables, new_variables};
 ghost use Rattle.nq_moves.specs.Exchanging.{exchange_at, ExchangeStands};
-ghost use Rattle.nq_moves.specs.Naming.{occurs_in_one, IsNewName, IsNaming, exchange_by, IsRenaming};
+ghost use Rattle.nq_moves.specs.Naming.{IsNaming, exchange_by, IsRenaming, occurs_in_one};
 
 use crate::exchanging::{Exchanging, exchange_all};
-use crate::known::is_either;
+use crate::numbering::next_name;
 use nq_bank::{Bank, Sym, TermId};
-use nq_clause::{Pair, occurs_in};
+use nq_clause::Pair;
 use nq_history::History;
 use nq_kernel::{Stop, Work};
-use nq_lines::symbol;
 use nq_rule::are_distinct_variables;
-use std::alloc::{AllocError, Global};
-
-/// So many numbers are tried for a new variable.
-const TRIES: u64 = 10_000;
-
-/// Writes the decimal digits of a number.
-fn put_digits(text: &mut Vec<u8>, n: u64) -> Result<(), AllocError>
-    ensures { OnOk result ((places : ℕ) → 1 ≤ places → n ≤ places → text.new.items ≡ text.old.items ++ digits_of places n) }
-{
-    if n < 10 {
-        text.push(48 + n as u8)?;
-        return Ok(());
-    }
-    put_digits(text, n / 10)?;
-    text.push(48 + (n % 10) as u8)?;
-    Ok(())
-}
-
-/// The text of the variable of a number.
-fn variable_text(alloc: Global, number: u64) -> Result<Vec<u8>, AllocError>
-    requires { 1 ≤ number }
-    ensures { IfOk result (λ text. text.items ≡ numbered number) }
-{
-    let mut text = Vec::new(alloc);
-    text.push(b'V')?;
-    put_digits(&mut text, number)?;
-    Ok(text)
-}
-
-/// The name of the variable of a number.
-fn numbered_name(work: &mut Work, history: &History, number: u64) -> Result<Sym, Stop>
-    requires stands { WorkStands history.now work.old }
-    requires number { 1 ≤ number }
-    ensures name { IfOk result (λ s. NamesText work.new.bank s (numbered number)) }
-    ensures grows { WorkGrows history.now work.old work.new }
-    ensures memory { result ≡ Err Stop.OutOfSteps → ⊥ }
-{
-    match variable_text(work.bank.alloc(), number) {
-        Ok(text) => symbol(work, history, text.as_slice()),
-        Err(_) => Err(Stop::Memory),
-    }
-}
-
-/// Does a variable stand in a term?
-fn occurs_at(bank: &Bank, variable: Sym, t: TermId) -> Result<bool, Stop>
-    requires variable { IsNamed bank.now variable }
-    requires term { Stands bank.now t }
-    ensures answer { IfOk result (λ b. b ≡ occurs (text_at bank.now variable) (term_at bank.now t)) }
-    ensures memory { result ≡ Err Stop.OutOfSteps → ⊥ }
-{
-    match occurs_in(bank, variable, t) {
-        Ok(found) => Ok(found),
-        Err(_) => Err(Stop::Memory),
-    }
-}
-
-/// Does a variable stand in one of these?
-fn occurs_in_these(bank: &Bank, variable: Sym, these: &[TermId]) -> Result<bool, Stop>
-    requires variable { IsNamed bank.now variable }
-    requires these { All (Stands bank.now) these.now }
-    ensures answer { IfOk result (λ b. b ≡ occurs_in_one (text_at bank.now variable) (terms_at bank.now these.now)) }
-    ensures memory { result ≡ Err Stop.OutOfSteps → ⊥ }
-{
-    let mut found = false;
-    for t in these {
-        let here = occurs_at(bank, variable, *t)?;
-        found = is_either(found, here);
-    }
-    Ok(found)
-}
-
-/// The name of a variable, and its number.
-#[derive(Clone, Copy, Debug, PartialEq, Eq)]
-pub struct Numbered {
-    /// The name.
-    pub name: Sym,
-    /// The number.
-    pub number: u64,
-}
-
-/// The name of the variable of a number, where it stands in none of the literals.
-fn new_name(
-    work: &mut Work,
-    history: &History,
-    literals: &[TermId],
-    number: u64,
-) -> Result<Option<Numbered>, Stop>
-    requires stands { WorkStands history.now work.old }
-    requires literals { All (IsTermIn history.now work.old) literals.now }
-    requires number { 1 ≤ number }
-    ensures name { IfOk result (λ found. IfSome found (λ n. IsNewName work.new literals.now n.name)) }
-    ensures grows { WorkGrows history.now work.old work.new }
-    ensures memory { result ≡ Err Stop.OutOfSteps → ⊥ }
-{
-    let name = numbered_name(work, history, number)?;
-    if occurs_in_these(&work.bank, name, literals)? {
-        Ok(None)
-    } else {
-        Ok(Some(Numbered { name, number }))
-    }
-}
-
-/// The first such name from a number on.
-fn next_name(
-    work: &mut Work,
-    history: &History,
-    literals: &[TermId],
-    first: u64,
-) -> Result<Option<Numbered>, Stop>
-    requires stands { WorkStands history.now work.old }
-    requires literals { All (IsTermIn history.now work.old) literals.now }
-    requires first { 1 ≤ first }
-    ensures name { IfOk result (λ found. IfSome found (λ n. IsNewName work.new literals.now n.name)) }
-    ensures grows { WorkGrows history.now work.old work.new }
-    ensures memory { result ≡ Err Stop.OutOfSteps → ⊥ }
-{
-    for number in first..first.saturating_add(TRIES) {
-        if let Some(found) = new_name(work, history, literals, number)? {
-            return Ok(Some(found));
-        }
-    }
-    Ok(None)
-}
 
 /// One more pair.
 fn push_pair(pairs: &mut Vec<Pair>, pair: Pair) -> Result<(), Stop>
@@ -156,34 +31,34 @@ fn push_pair(pairs: &mut Vec<Pair>, pair: Pair) -> Result<(), Stop>
     }
 }
 
-/// A new variable for each term, in turn.
+/// New variables for the terms, in turn: those of the least numbers that stand in none of the literals.
 fn name_terms(
     work: &mut Work,
     history: &History,
     literals: &[TermId],
     terms: &[TermId],
-) -> Result<Option<Vec<Pair>>, Stop>
+) -> Result<Vec<Pair>, Stop>
     requires stands { WorkStands history.now work.old }
     requires literals { All (IsTermIn history.now work.old) literals.now }
     requires terms { All (IsTermIn history.now work.old) terms.now }
-    ensures pairs { IfOk result (λ found. IfSome found (λ pairs. All (IsNaming history.now work.new literals.now) pairs.items)) }
+    ensures pairs { IfOk result (λ pairs. All (IsNaming history.now work.new literals.now) pairs.items) }
+    ensures names { IfOk result (λ pairs. pair_names (substitution_at work.new.bank pairs.items) ≡ new_variables (clause_variables (terms_at work.old.bank literals.now)) (length terms.now)) }
+    ensures terms { IfOk result (λ pairs. pair_terms (substitution_at work.new.bank pairs.items) ≡ terms_at work.old.bank terms.now) }
     ensures grows { WorkGrows history.now work.old work.new }
     ensures memory { result ≡ Err Stop.OutOfSteps → ⊥ }
 {
     let mut pairs = Vec::new(work.bank.alloc());
     let mut number = 1;
     for t in terms {
-        let Some(next) = next_name(work, history, literals, number)? else {
-            return Ok(None);
-        };
-        number = next.number.saturating_add(1);
+        let next = next_name(work, history, literals, number)?;
+        number = next.number + 1;
         let pair = Pair {
             variable: next.name,
             term: *t,
         };
         push_pair(&mut pairs, pair)?;
     }
-    Ok(Some(pairs))
+    Ok(pairs)
 }
 
 /// The id of a variable.
@@ -281,6 +156,7 @@ fn rename_with(
     requires distinct { IsTrue (is_substitution (substitution_at work.old.bank pairs.items)) }
     requires values { All (λ p. is_value (term_at work.old.bank p.term) ≡ false) pairs.items }
     ensures renaming { IfOk result (IsRenaming history.now work.new literals.now) }
+    ensures pairs { IfOk result (λ r. r.pairs ≡ pairs) }
     ensures grows { WorkGrows history.now work.old work.new }
     ensures out { result ≡ Err Stop.OutOfSteps → work.new.counter.used ≡ work.new.counter.limit }
 {
@@ -314,7 +190,7 @@ fn rename_by(
     }
 }
 
-/// The literals with new variables in the places of terms. It is none where there is no new variable for each.
+/// The literals with new variables in the places of terms. It is none where one of these is a value.
 pub fn rename(
     work: &mut Work,
     history: &History,
@@ -328,8 +204,31 @@ pub fn rename(
     ensures grows { WorkGrows history.now work.old work.new }
     ensures out { result ≡ Err Stop.OutOfSteps → work.new.counter.used ≡ work.new.counter.limit }
 {
-    match name_terms(work, history, literals, terms)? {
-        Some(pairs) => rename_by(work, history, literals, pairs),
-        None => Ok(None),
-    }
+    let pairs = name_terms(work, history, literals, terms)?;
+    rename_by(work, history, literals, pairs)
+}
+
+/// The literals with new variables in the places of terms that are no values. The variables are those of the least numbers that stand
+/// in none of the known terms, which have the variables of the literals.
+pub fn rename_new(
+    work: &mut Work,
+    history: &History,
+    known: &[TermId],
+    literals: &[TermId],
+    terms: &[TermId],
+) -> Result<Renaming, Stop>
+    requires stands { WorkStands history.now work.old }
+    requires known { All (IsTermIn history.now work.old) known.now }
+    requires literals { All (IsTermIn history.now work.old) literals.now }
+    requires within { (x : Name) → occurs_in_one x (terms_at work.old.bank known.now) ≡ false → occurs_in_one x (terms_at work.old.bank literals.now) ≡ false }
+    requires terms { All (IsTermIn history.now work.old) terms.now }
+    requires values { All (λ t. is_value (term_at work.old.bank t) ≡ false) terms.now }
+    ensures renaming { IfOk result (IsRenaming history.now work.new literals.now) }
+    ensures names { IfOk result (λ r. pair_names (substitution_at work.new.bank r.pairs.items) ≡ new_variables (clause_variables (terms_at work.old.bank known.now)) (length terms.now)) }
+    ensures terms { IfOk result (λ r. pair_terms (substitution_at work.new.bank r.pairs.items) ≡ terms_at work.old.bank terms.now) }
+    ensures grows { WorkGrows history.now work.old work.new }
+    ensures out { result ≡ Err Stop.OutOfSteps → work.new.counter.used ≡ work.new.counter.limit }
+{
+    let pairs = name_terms(work, history, known, terms)?;
+    rename_with(work, history, literals, pairs)
 }

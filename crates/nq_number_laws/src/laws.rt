@@ -6,6 +6,7 @@ ghost use Rattle.nq_replay.specs.Replaying.{law_clause};
 use crate::tables::below_is_less::BELOW_IS_LESS;
 use crate::tables::difference_is_enough::DIFFERENCE_IS_ENOUGH;
 use crate::tables::difference_is_exact::DIFFERENCE_IS_EXACT;
+use crate::tables::difference_is_no_more::DIFFERENCE_IS_NO_MORE;
 use crate::tables::difference_is_none::DIFFERENCE_IS_NONE;
 use crate::tables::difference_is_number::DIFFERENCE_IS_NUMBER;
 use crate::tables::fix_is_enough::FIX_IS_ENOUGH;
@@ -18,6 +19,8 @@ use crate::tables::no_rest::NO_REST;
 use crate::tables::number_is_more::NUMBER_IS_MORE;
 use crate::tables::number_is_more_turned::NUMBER_IS_MORE_TURNED;
 use crate::tables::numbers_compare::NUMBERS_COMPARE;
+use crate::tables::one_less_is_enough::ONE_LESS_IS_ENOUGH;
+use crate::tables::one_less_is_no_more::ONE_LESS_IS_NO_MORE;
 use crate::tables::one_less_is_number::ONE_LESS_IS_NUMBER;
 use crate::tables::one_less_of_positive::ONE_LESS_OF_POSITIVE;
 use crate::tables::one_less_of_zero::ONE_LESS_OF_ZERO;
@@ -96,6 +99,12 @@ pub enum InductiveLaw {
     FixIsEnough,
     /// `(NOT (LESSP X (FIX X)))`.
     FixIsNoMore,
+    /// `(NOT (LESSP X (SUB1 X)))`.
+    OneLessIsNoMore,
+    /// `(NOT (LESSP (ADD1 (SUB1 X)) X))`.
+    OneLessIsEnough,
+    /// `(NOT (LESSP X (DIFFERENCE X Y)))`.
+    DifferenceIsNoMore,
     /// `(NOT (LESSP (PLUS Y (DIFFERENCE X Y)) X))`.
     DifferenceIsEnough,
     /// `(LESSP X Y)`, `(NOT (LESSP X (PLUS Y (DIFFERENCE X Y))))`.
@@ -147,6 +156,9 @@ pub fn inductive_table(law: InductiveLaw) -> Law
         InductiveLaw::LessIsTruth => LESS_IS_TRUTH,
         InductiveLaw::FixIsEnough => FIX_IS_ENOUGH,
         InductiveLaw::FixIsNoMore => FIX_IS_NO_MORE,
+        InductiveLaw::OneLessIsNoMore => ONE_LESS_IS_NO_MORE,
+        InductiveLaw::OneLessIsEnough => ONE_LESS_IS_ENOUGH,
+        InductiveLaw::DifferenceIsNoMore => DIFFERENCE_IS_NO_MORE,
         InductiveLaw::DifferenceIsEnough => DIFFERENCE_IS_ENOUGH,
         InductiveLaw::DifferenceIsExact => DIFFERENCE_IS_EXACT,
         InductiveLaw::DifferenceIsNone => DIFFERENCE_IS_NONE,

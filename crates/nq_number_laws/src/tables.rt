@@ -3,6 +3,7 @@
 pub mod below_is_less;
 pub mod difference_is_enough;
 pub mod difference_is_exact;
+pub mod difference_is_no_more;
 pub mod difference_is_none;
 pub mod difference_is_number;
 pub mod fix_is_enough;
@@ -15,6 +16,8 @@ pub mod no_rest;
 pub mod number_is_more;
 pub mod number_is_more_turned;
 pub mod numbers_compare;
+pub mod one_less_is_enough;
+pub mod one_less_is_no_more;
 pub mod one_less_is_number;
 pub mod one_less_of_positive;
 pub mod one_less_of_zero;

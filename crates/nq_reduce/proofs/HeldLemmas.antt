@@ -122,9 +122,16 @@ module _ (history : List Entry) (old one two : Work) (assumed : List Term) (t : 
   pub truth_known : u ≡ true_term → MakesOf one two (equal_term (term_at one.bank t) true_term) (term_at one.bank t) same line → IsKnown two assumed u (record { value = true; line = line })
   truth_known is makes = record { shown = subst (λ w. LineHasOnly two line (w ∷ denials assumed)) unchanged_term (makes (denials assumed) (equals true_term is)) }
 
-  -- F is false
-  pub falsity_known : u ≡ false_term → MakesOf one two (equal_term (term_at one.bank t) false_term) (not_term (term_at one.bank t)) same line → IsKnown two assumed u (record { value = false; line = line })
-  falsity_known is makes = record { shown = subst (λ w. LineHasOnly two line (not_term w ∷ denials assumed)) unchanged_term (makes (denials assumed) (equals false_term is)) }
+-- T is true, by its row
+pub truth_by_row : (work : Work) (assumed : List Term) (u : Term) (line : ℕ) → u ≡ true_term → LineLeads work line true_term [] → IsKnown work assumed u (record { value = true; line = line })
+truth_by_row work assumed u line is leads =
+    record { shown = subst (λ w. LineHasOnly work line (w ∷ denials assumed)) (sym is) (only_more work line (true_term ∷ []) (true_term ∷ denials assumed) (beside true_term [] (denials assumed) (none_among (denials assumed))) (leads_only work line true_term [] leads)) }
+
+-- F is false, by its row
+pub falsity_by_row : (work : Work) (assumed : List Term) (u : Term) (line : ℕ) → u ≡ false_term → LineLeads work line (not_term false_term) [] → IsKnown work assumed u (record { value = false; line = line })
+falsity_by_row work assumed u line is leads =
+    let n : Term = not_term false_term in
+    record { shown = subst (λ w. LineHasOnly work line (not_term w ∷ denials assumed)) (sym is) (only_more work line (n ∷ []) (n ∷ denials assumed) (beside n [] (denials assumed) (none_among (denials assumed))) (leads_only work line n [] leads)) }
 
 -- the term itself, after the work grew
 pub unchanged_after : (history : List Entry) (old one : Work) (assumed : List TermId) (t : TermId) (r : Rewritten) → WorkGrows history old one → CanRewrite history old assumed t → r.term ≡ t → r.line ≡ None → IsRewritten history one (terms_at old.bank assumed) (term_at old.bank t) r

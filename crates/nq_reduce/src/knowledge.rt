@@ -6,10 +6,10 @@ ghost use Rattle.nq_bank.specs.Content.{Stands, term_at, terms_at};
 ghost use Rattle.nq_kernel.specs.Growing.{WorkGrows};
 ghost use Rattle.nq_reduce.specs.Rewriting.{CanRewrite, IsAssumedFalse, IsKnown};
 
-use nq_bank::{Bank, Node, TermId, ground};
+use nq_bank::{Bank, Node, TermId, ground, ground_name};
 use nq_history::History;
 use nq_kernel::{Stop, Work};
-use nq_lines::{falsity, from_equal_false, from_equal_true, is_same, opposites, reflexive, truth};
+use nq_lines::{falsity, is_same, opposites, row_line, truth};
 
 /// That a term is true or false, and the number of the line that shows it.
 #[derive(Clone, Copy, Debug, PartialEq, Eq)]
@@ -155,8 +155,8 @@ fn known_true_value(
     ensures grows { WorkGrows history.now work.old work.new }
     ensures out { result ≡ Err Stop.OutOfSteps → work.new.counter.used ≡ work.new.counter.limit }
 {
-    let same = reflexive(work, history, t)?;
-    let line = from_equal_true(work, history, t, same)?;
+    let name = ground_name(&work.bank, ground::TRUE);
+    let line = row_line(work, history, name, 1, 0)?;
     Ok(Some(Known { value: true, line }))
 }
 
@@ -193,7 +193,7 @@ fn known_is_false(
     ensures grows { WorkGrows history.now work.old work.new }
     ensures out { result ≡ Err Stop.OutOfSteps → work.new.counter.used ≡ work.new.counter.limit }
 {
-    let same = reflexive(work, history, t)?;
-    let line = from_equal_false(work, history, t, same)?;
+    let name = ground_name(&work.bank, ground::FALSE);
+    let line = row_line(work, history, name, 1, 0)?;
     Ok(Some(Known { value: false, line }))
 }

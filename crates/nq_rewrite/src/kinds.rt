@@ -10,6 +10,7 @@ ghost use Rattle.nq_lines.specs.Facts.{IsFact};
 ghost use Rattle.nq_lines.specs.Lines.{IsTermIn};
 ghost use Rattle.nq_lines.specs.OwnTerms.{HasOwnTerms};
 
+use crate::told_kinds::told_kind;
 use nq_bank::{Bank, Node, Sym, TermId};
 use nq_history::History;
 use nq_kernel::{Stop, Work};
@@ -123,6 +124,26 @@ pub fn kind_fact(
 {
     match row_fact(work, history, f)? {
         Some(definition) => kind_by_definition(work, history, f, definition, t),
+        None => kind_by_event(work, history, f, t),
+    }
+}
+
+/// The same, by an axiom or a lemma that says it, of a function that is not defined.
+fn kind_by_event(
+    work: &mut Work,
+    history: &History,
+    f: Sym,
+    t: TermId,
+) -> Result<Option<Fact>, Stop>
+    requires stands { WorkStands history.now work.old }
+    requires ready { HasOwnTerms (events_at work.old.bank history.now) }
+    requires term { IsTermIn history.now work.old t }
+    ensures fact { IfOk result (λ found. IfSome found (IsFact history.now work.new)) }
+    ensures grows { WorkGrows history.now work.old work.new }
+    ensures out { result ≡ Err Stop.OutOfSteps → work.new.counter.used ≡ work.new.counter.limit }
+{
+    match told_kind(work, history, f)? {
+        Some(told) => kind_by_row(work, history, told, t),
         None => Ok(None),
     }
 }
@@ -148,7 +169,7 @@ fn kind_by_definition(
     }
 }
 
-/// The same, by a row that says itself of what kind the calls of the function are, as that of COUNT does.
+/// The same, by a row, an axiom or a lemma that says itself of what kind the calls of the function are, as row 1 of COUNT does.
 fn kind_by_row(
     work: &mut Work,
     history: &History,

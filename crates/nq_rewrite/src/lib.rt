@@ -23,9 +23,13 @@ mod way;
 // what is known of the kinds of calls
 mod kinded;
 mod kinds;
+mod told_kinds;
 
 // rules with variables that their left sides do not bind
 mod binding;
+
+// equations of truth values
+mod comparing;
 
 // single steps
 mod steps;
@@ -41,5 +45,6 @@ mod testing;
 mod entrance;
 
 pub use entrance::{rewrite, rewrite_by, rewritten};
-pub use kinds::{kind_line, known_recognizer, one_call};
+pub use kinds::{kind_fact, kind_line, known_recognizer, named_function, one_call};
 pub use rules::{Rules, make_rules};
+pub use told_kinds::told_kind;

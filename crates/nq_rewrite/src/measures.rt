@@ -57,8 +57,15 @@ fn is_measured(bank: &Bank, x: Sym, measure: TermId) -> bool {
     }
 }
 
-/// Are the measured arguments of one call smaller than those of another?
-fn are_smaller(bank: &Bank, formals: &[Sym], measure: TermId, old: TermId, new: TermId) -> bool
+/// One for a value, else nothing.
+fn value_count(bank: &Bank, t: TermId) -> u64
+    requires { Stands bank.now t }
+{
+    if bank.is_value(t) { 1 } else { 0 }
+}
+
+/// Are the measured arguments of one call smaller than those of another, or are more of them values?
+fn are_simpler(bank: &Bank, formals: &[Sym], measure: TermId, old: TermId, new: TermId) -> bool
     requires old { Stands bank.now old }
     requires new { Stands bank.now new }
 {
@@ -66,6 +73,8 @@ fn are_smaller(bank: &Bank, formals: &[Sym], measure: TermId, old: TermId, new: 
     let news = bank.args(new);
     let mut before: u64 = 0;
     let mut after: u64 = 0;
+    let mut values_before: u64 = 0;
+    let mut values_after: u64 = 0;
     for i in 0..formals.len() {
         if i < olds.len() && i < news.len() && is_measured(bank, formals[i], measure) {
             let less = less_number(bank, olds[i], news[i]);
@@ -73,19 +82,21 @@ fn are_smaller(bank: &Bank, formals: &[Sym], measure: TermId, old: TermId, new: 
                 .saturating_add(bank.size(olds[i]))
                 .saturating_add(less);
             after = after.saturating_add(bank.size(news[i]));
+            values_before = values_before.saturating_add(value_count(bank, olds[i]));
+            values_after = values_after.saturating_add(value_count(bank, news[i]));
         }
     }
-    after < before
+    after < before || values_after > values_before
 }
 
 /// The same, by the entry of the function.
-fn are_smaller_by(bank: &Bank, e: &Entry, old: TermId, new: TermId) -> bool
+fn are_simpler_by(bank: &Bank, e: &Entry, old: TermId, new: TermId) -> bool
     requires old { Stands bank.now old }
     requires new { Stands bank.now new }
 {
     match &e.kind {
         EntryKind::Defn(formals, _, Some(measure)) => {
-            are_smaller(bank, formals.as_slice(), *measure, old, new)
+            are_simpler(bank, formals.as_slice(), *measure, old, new)
         }
         EntryKind::Defn(_, _, None) => false,
         EntryKind::Axiom(_, _) => false,
@@ -108,21 +119,8 @@ fn are_seen(bank: &Bank, goal: &[TermId], t: TermId) -> bool
     true
 }
 
-/// How many arguments of a call are values?
-fn values_in(bank: &Bank, t: TermId) -> u64
-    requires { Stands bank.now t }
-{
-    let mut count: u64 = 0;
-    for a in bank.args(t) {
-        if bank.is_value(*a) {
-            count = count.saturating_add(1);
-        }
-    }
-    count
-}
-
-/// Is a call of a recursive function worth having in the place of another? It is where its measured arguments are smaller, where
-/// its arguments stand in the goal, or where more of them are values.
+/// Is a call of a recursive function worth having in the place of another? It is where its measured arguments are smaller or more
+/// of them are values, or where all its arguments stand in the goal.
 pub fn is_good(
     bank: &Bank,
     history: &History,
@@ -134,11 +132,11 @@ pub fn is_good(
     requires old { Stands bank.now old }
     requires new { Stands bank.now new }
 {
-    let smaller = match history.lookup(f) {
-        Some(e) => are_smaller_by(bank, e, old, new),
+    let simpler = match history.lookup(f) {
+        Some(e) => are_simpler_by(bank, e, old, new),
         None => false,
     };
-    smaller || are_seen(bank, goal, new) || values_in(bank, new) > values_in(bank, old)
+    simpler || are_seen(bank, goal, new)
 }
 
 /// Is each call of a function within a term worth having in the place of one call?

@@ -11,6 +11,17 @@ use std::collections::HashMap;
 /// The factor that mixes the bits of a mark.
 const FACTOR: u64 = 0x9E37_79B9_7F4A_7C15;
 
+/// A number for each kind of mark. They lie far apart, so that marks of two kinds are not one, whatever small numbers stand in them.
+const TERM: u64 = 0x6A09_E667_F3BC_C908;
+
+const OPENING: u64 = 0xBB67_AE85_84CA_A73B;
+
+const ASSUMED: u64 = 0x3C6E_F372_FE94_F82B;
+/// The number of the marks of what is within a hypothesis that is being relieved.
+pub const RELIEVED: u64 = 0xA54F_F53A_5F1D_36F1;
+/// The number of the marks of what is within the body of a function.
+pub const BODY: u64 = 0x510E_527F_ADE6_82D1;
+
 /// How many nodes a test of a body may have beside those of the call.
 const TEST_NODES: u64 = 4;
 
@@ -40,10 +51,10 @@ pub fn mark_of(bank: &Bank, assumed: &[TermId], t: TermId) -> u64
     let mut sum: u64 = 0;
     for a in assumed {
         if shares_variable(bank, variables, *a) {
-            sum = sum.wrapping_add(mixed(5, a.0));
+            sum = sum.wrapping_add(mixed(ASSUMED, a.0));
         }
     }
-    mixed(mixed(1, t.0), sum)
+    mixed(mixed(TERM, t.0), sum)
 }
 
 /// The mark of a call that is opened where these are assumed. The tests of its body are about what stands in it, and so only the
@@ -56,10 +67,10 @@ pub fn mark_of_opening(bank: &Bank, assumed: &[TermId], t: TermId) -> u64
     let mut sum: u64 = 0;
     for a in assumed {
         if is_all_in(bank, variables, nodes, *a) {
-            sum = sum.wrapping_add(mixed(6, a.0));
+            sum = sum.wrapping_add(mixed(ASSUMED, a.0));
         }
     }
-    mixed(mixed(7, t.0), sum)
+    mixed(mixed(OPENING, t.0), sum)
 }
 
 impl Search {

@@ -7,6 +7,7 @@ ghost use Rattle.nq_instances.specs.Parts.{IsIfOf};
 ghost use Rattle.nq_reduce.specs.Held.{IsHeld};
 ghost use Rattle.nq_reduce.specs.Rewriting.{CanRewrite, IsKnown, IsRewritten};
 
+use crate::comparing::compared_side;
 use crate::measures::is_recursive;
 use crate::terms::{function_of, has_id};
 use nq_bank::{Bank, Sym, TermId, ground};
@@ -216,16 +217,37 @@ fn is_decided(bank: &Bank, assumed: &[TermId], p: TermId) -> bool {
     false
 }
 
-/// The test of the IF that is an argument of a call, which is to be taken out of it.
+/// The test by which a call is divided: that of an IF among its arguments, which is to be taken out of it, or a truth value that it
+/// compares.
 pub fn lifted_test(work: &Work, history: &History, assumed: &[TermId], t: TermId) -> Option<TermId>
     requires stands { WorkStands history.now work.now }
     requires term { IsTermIn history.now work.now t }
     ensures { IfSome result (IsTermIn history.now work.now) }
 {
-    if is_lifting(&work.bank, history, t) {
-        test_within(work, history, assumed, t)
-    } else {
-        None
+    if !is_lifting(&work.bank, history, t) {
+        return None;
+    }
+    match test_within(work, history, assumed, t) {
+        Some(p) => Some(p),
+        None => compared_test(work, history, assumed, t),
+    }
+}
+
+/// The truth value by which an equation is divided, if it is not decided.
+fn compared_test(work: &Work, history: &History, assumed: &[TermId], t: TermId) -> Option<TermId>
+    requires stands { WorkStands history.now work.now }
+    requires term { IsTermIn history.now work.now t }
+    ensures { IfSome result (IsTermIn history.now work.now) }
+{
+    match compared_side(work, history, t) {
+        Some(p) => {
+            if is_decided(&work.bank, assumed, p) {
+                None
+            } else {
+                Some(p)
+            }
+        }
+        None => None,
     }
 }
 

@@ -10,9 +10,8 @@ use Rattle.nq_form.specs.Grammar.{Items, Reads, Ending, done, fault, too_long}
 use Rattle.nq_sexp.specs.Whole.{IsEnding}
 use Rattle.nq_sexp.specs.declared.fault.ReadFault.{ReadFault}
 use Rattle.nq_log.specs.States.{Claim}
-use Rattle.nq_log.specs.Logs.{Right, reading_of}
 use Rattle.nq_block.specs.Blocks.{IsBlock}
-use Rattle.nq_block.specs.OpenLogs.{IsOpenLog, end_text}
+use Rattle.nq_block.specs.OpenLogs.{IsOpenLog, IsRightLog, end_text}
 use Rattle.nq_comment.specs.Reports.{Report}
 use Rattle.nq_comment.specs.Text.{lines_of_report, rendering, report_lines}
 use Rattle.nq_comment.specs.ReportViews.{ending_of}
@@ -135,10 +134,6 @@ abbrev pub last_text : Ending → List ℕ
 last_text done = end_text
 last_text (fault code offset) = []
 last_text too_long = []
-
--- a right log with these claims
-pub record IsRightLog (claims : List Claim) (log : List ℕ) : Type 0 where
-  pub reads : reading_of log ≡ record { claims = claims; ending = Right }
 
 -- the log of a run that came to the end of its text: a right log with the claims of its forms, or, where the spelling of
 -- the text is wrong, one without its last line

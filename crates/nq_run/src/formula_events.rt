@@ -27,7 +27,8 @@ use crate::session::{Given, Session, Taken};
 use nq_bank::{Bank, Mark, Sym, TermId};
 use nq_block::Closing;
 use nq_comment::FormAnswer;
-use nq_first_goal::{failing, judge, trace_lemma};
+use nq_first_goal::{failing, judge};
+use nq_giving_up::trace_proof;
 use nq_history::{Class, Entry, EntryKind};
 use nq_kernel::Prover;
 use nq_logtext::Text;
@@ -271,7 +272,7 @@ impl Session {
         match found {
             Found::Moves(_) => {
                 let Session { bank, history } = session;
-                let traced = trace_lemma(bank, &history, lemma.hints, lemma.goal)?;
+                let traced = trace_proof(alloc, bank, &history, lemma.hints, lemma.goal)?;
                 let session = Session {
                     bank: traced.bank,
                     history,

@@ -1,4 +1,5 @@
-//! Which draft comes first: one that no other disturbs, with the greatest share of the arguments.
+//! Which draft comes first: one that no other disturbs, with the greatest share of the arguments. After all come those that were
+//! merged into others, each by itself, with the fewest changed variables first.
 
 use crate::draft::Draft;
 use crate::merging::merge;
@@ -10,6 +11,8 @@ use std::alloc::{AllocError, Global};
 /// What speaks for a draft.
 #[derive(Clone, Copy, Debug, PartialEq, Eq)]
 struct Weight {
+    /// Whether it was merged into another, and stands by itself here.
+    apart: bool,
     /// Whether another draft changes one of its variables, or keeps one that it changes.
     flawed: bool,
     /// Its score.
@@ -34,10 +37,10 @@ fn disturbs(other: &Draft, draft: &Draft) -> bool {
             && are_apart(changed, other.still.as_slice()))
 }
 
-/// Is there another draft that disturbs the one at a place?
-fn is_flawed(drafts: &[Draft], i: usize) -> bool {
+/// Is there another draft, among so many, that disturbs the one at a place?
+fn is_flawed(drafts: &[Draft], whole: usize, i: usize) -> bool {
     for j in 0..drafts.len() {
-        if i < drafts.len() && i != j && disturbs(&drafts[j], &drafts[i]) {
+        if j < whole && i < drafts.len() && i != j && disturbs(&drafts[j], &drafts[i]) {
             return true;
         }
     }
@@ -67,14 +70,15 @@ fn own_calls(bank: &Bank, calls: &[TermId]) -> u64 {
     count
 }
 
-/// The weights of the drafts that are still there.
-fn weights_of(bank: &Bank, drafts: &[Draft]) -> Result<Vec<Weight>, AllocError> {
+/// The weights of the drafts that are still there, of which so many come before those that were merged.
+fn weights_of(bank: &Bank, drafts: &[Draft], whole: usize) -> Result<Vec<Weight>, AllocError> {
     let mut weights = Vec::new(bank.alloc());
     for place in 0..drafts.len() {
         let draft = &drafts[place];
         if !draft.gone {
             weights.push(Weight {
-                flawed: is_flawed(drafts, place),
+                apart: place >= whole,
+                flawed: is_flawed(drafts, whole, place),
                 score: draft.score,
                 by_parts: draft.by_parts,
                 calls: own_calls(bank, draft.calls.as_slice()),
@@ -89,6 +93,12 @@ fn weights_of(bank: &Bank, drafts: &[Draft]) -> Result<Vec<Weight>, AllocError> 
 
 /// Does one draft come before another?
 fn is_before(one: &Weight, other: &Weight) -> bool {
+    if one.apart != other.apart {
+        return other.apart;
+    }
+    if one.apart && one.changed != other.changed {
+        return one.changed < other.changed;
+    }
     if one.flawed != other.flawed {
         return other.flawed;
     }
@@ -128,15 +138,39 @@ fn place_of(weights: &[Weight], turn: u32) -> Option<usize> {
     None
 }
 
-/// Subsumes and merges drafts, and tells the place of the one of this number.
+/// Was the draft at a place merged into another, or another into it?
+fn is_merged(drafts: &[Draft], place: usize, draft: &Draft) -> bool {
+    place < drafts.len()
+        && !draft.gone
+        && (drafts[place].gone || drafts[place].calls.len() != draft.calls.len())
+}
+
+/// Adds those drafts that were merged, as they were before.
+fn add_apart(drafts: &mut Vec<Draft>, mut apart: Vec<Draft>) -> Result<(), AllocError> {
+    for _ in 0..apart.len() {
+        if let Some(draft) = apart.pop() {
+            if is_merged(drafts.as_slice(), apart.len(), &draft) {
+                drafts.push(draft)?;
+            }
+        }
+    }
+    Ok(())
+}
+
+/// Subsumes and merges drafts, adds those that were merged, from a second list of the same drafts, and tells the place of the one
+/// of this number.
 pub fn choose(
     bank: &Bank,
     drafts: &mut Vec<Draft>,
+    mut apart: Vec<Draft>,
     turn: u32,
 ) -> Result<Option<usize>, AllocError> {
     let alloc = bank.alloc();
     subsume(alloc, drafts)?;
     merge(alloc, drafts)?;
-    let weights = weights_of(bank, drafts.as_slice())?;
+    subsume(alloc, &mut apart)?;
+    let whole = drafts.len();
+    add_apart(drafts, apart)?;
+    let weights = weights_of(bank, drafts.as_slice(), whole)?;
     Ok(place_of(weights.as_slice(), turn))
 }

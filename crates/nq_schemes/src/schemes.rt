@@ -148,11 +148,16 @@ fn drafts_at(work: &Work, history: &History, opened: &[Opened]) -> Result<Vec<Dr
     }
 }
 
-/// The place of the draft of this number.
-fn chosen(work: &Work, drafts: &mut Vec<Draft>, turn: u32) -> Result<Option<usize>, Stop>
+/// The place of the draft of this number, after those were added that were merged.
+fn chosen(
+    work: &Work,
+    drafts: &mut Vec<Draft>,
+    apart: Vec<Draft>,
+    turn: u32,
+) -> Result<Option<usize>, Stop>
     ensures memory { result ≡ Err Stop.OutOfSteps → ⊥ }
 {
-    match choose(&work.bank, drafts, turn) {
+    match choose(&work.bank, drafts, apart, turn) {
         Ok(place) => Ok(place),
         Err(_) => Err(Stop::Memory),
     }
@@ -207,7 +212,8 @@ fn scheme_of_calls(
     own_terms();
     let opened = all_opened(work, history, goal, calls)?;
     let mut drafts = drafts_at(work, history, opened.as_slice())?;
-    let place = chosen(work, &mut drafts, turn)?;
+    let apart = drafts_at(work, history, opened.as_slice())?;
+    let place = chosen(work, &mut drafts, apart, turn)?;
     scheme_of_place(work, history, opened, drafts.as_slice(), place, arithmetic)
 }
 

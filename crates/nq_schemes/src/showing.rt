@@ -52,7 +52,7 @@ fn plain_line(work: &mut Work, history: &History, goal: &[TermId]) -> Result<Opt
     ensures out { result ≡ Err Stop.OutOfSteps → work.new.counter.used ≡ work.new.counter.limit }
 {
     let hints = no_hints(work.bank.alloc());
-    arithmetic_line_by_lemmas(work, history, &hints, goal)
+    arithmetic_line_by_lemmas(work, history, &hints, goal, &[])
 }
 
 /// The line that one of some literals holds, by linear arithmetic.

@@ -1,7 +1,7 @@
 -- A form that is being read: the machine's state is that of the text that was taken.
 use Rattle.std.proofs.Common.{◌≡◌, ℕ, ◌+◌, ◌-◌, ◌^◌, ◌<◌, ◌≤◌, true, false, List, [], ◌∷◌, ◌++◌, length, refl, ap, sym, ◌∙◌, subst, arith, append_assoc, append-nil, inl, inr}
 use Rattle.std.specs.Prelude.{Option, None, Some, Err, IfSome, IsTrue, ◌⊎◌}
-use Rattle.std.specs.Io.KnownBytes.{Consumes, IsAtEnd, prepend_known}
+use Rattle.std.specs.Io.KnownBytes.{Consumes, prepend_known}
 use Rattle.std.proofs.lemmas.Grind.{common_steps}
 use Rattle.nq_form.specs.Form.{Form, Forms, end, push}
 use Rattle.nq_form.specs.Bytes.{is_closed}
@@ -12,13 +12,13 @@ use Rattle.nq_form.proofs.Built.{bottom, After}
 use Rattle.nq_form.proofs.Settling.{Faulty}
 use Rattle.nq_form.proofs.Stepping.{Standing, IsRight, closed-standing}
 use Rattle.nq_form.proofs.Stopping.{Comes, is_token, end-right, finish-right, standing-holds}
-use Rattle.nq_sexp.specs.Held.{Held, ahead, IsNext, Begins, Taken}
+use Rattle.nq_sexp.specs.Held.{Held, behind, ahead, IsNext, Begins, Taken}
 use Rattle.nq_sexp.specs.Halt.{IsLookFault, IsFaultAt, IsMet, IsApart, IsPrompt, IsFound}
 use Rattle.nq_sexp.specs.Stacks.{StopsAs, EndsAs}
 use Rattle.nq_sexp.specs.Modes.{IsWord, is_whole_word, nested_in, ends_token, settled, stepped}
 use Rattle.nq_sexp.specs.declared.fault.ReadFault.{ReadFault}
 use Rattle.nq_sexp.specs.declared.fault.ReadFault.TheVariants.{Unbalanced, BadToken, NumeralTooWide, TooDeep, FileTooLong, Read, Memory}
-use Rattle.nq_sexp.proofs.Reading.{taken-more, taken-looked, taken-one, prompt-open}
+use Rattle.nq_sexp.proofs.Reading.{behind-end, not_told, none_in_hand, taken-more, taken-looked, taken-one, prompt-open}
 use Rattle.nq_sexp.proofs.Growing.{Grown, Ended, settled-grown, stepped-grown}
 use Rattle.nq_sexp.proofs.Readying.{RestIs, rest_of, Ready, between, inside, settled-ready, settled-fault, settled-open, stepped-right, push-some, none-whole, some-whole, items-whole, standing-after, standing-word, ready-levels}
 
@@ -26,17 +26,13 @@ pub ahead_rest : (bytes : List ℕ) (left : Option (List ℕ)) (rest : List ℕ)
 ahead_rest bytes None rest e = cc
 ahead_rest bytes (Some xs) rest e = (xs, refl, cc)
 
-none_in_hand : (held : Held) (left : Option (List ℕ)) → held.bytes ≡ [] → ahead held left ≡ left
-none_in_hand held None e = refl
-none_in_hand held (Some xs) e = ap (λ z. prepend_known z (Some xs)) e
-
 -- what comes next begins the rest of the text
-pub coming-rest : (held : Held) (left : Option (List ℕ)) (following : Option ℕ) (r : List ℕ) → IsNext held left following → ahead held left ≡ Some r → RestIs following r
+pub coming-rest : (held : Held) (left : Option (List ℕ)) (following : Option ℕ) (r : List ℕ) → IsNext held following → ahead held left ≡ Some r → RestIs following r
 coming-rest held left None r n e =
-    let told = ahead_rest held.bytes left r e in
-    let at_end : told.0 ≡ [] = subst (λ (z : Option (List ℕ)). IsAtEnd z) told.1 n.1 in
+    let told = ahead_rest held.bytes (behind held.told left) r e in
+    let at_end : told.0 ≡ [] = behind-end held.told left told.0 n.1 told.1 in
     told.2 ∙ ap (λ (z : List ℕ). z ++ told.0) n.0 ∙ at_end
-coming-rest held left (Some b) r n e = let told = ahead_rest held.bytes left r e in ((n.0).0 ++ told.0, told.2 ∙ ap (λ (z : List ℕ). z ++ told.0) (n.0).1)
+coming-rest held left (Some b) r n e = let told = ahead_rest held.bytes (behind held.told left) r e in ((n.0).0 ++ told.0, told.2 ∙ ap (λ (z : List ℕ). z ++ told.0) (n.0).1)
 
 -- what holds of the text ahead holds of what was taken and the rest
 at-rest : (a b : Option (List ℕ)) (t : List ℕ) (P : List ℕ → Type 0) → Consumes a b t → ((r : List ℕ) → b ≡ Some r → P (t ++ r)) → IfSome a P
@@ -112,7 +108,7 @@ module _ {S : Type 0} (left : S → Option (List ℕ)) where
   pub record Parsing (old : Held) (before : S) (new : Held) (after : S) (k : Stack) (m : Mode) (following : Option ℕ) : Type 0 where
     pub text : List ℕ
     pub taken : Taken left old before new after text
-    pub coming : IsNext new (left after) following
+    pub coming : IsNext new following
     pub standing : Standing old.at 500 k m text
     pub outside : outer_of k ≡ end
     pub nested : nested_in m ≤ length text
@@ -121,7 +117,7 @@ module _ {S : Type 0} (left : S → Option (List ℕ)) where
   pub record Settled (old : Held) (before : S) (new : Held) (after : S) (k : Stack) (m : Mode) (following : Option ℕ) : Type 0 where
     pub text : List ℕ
     pub taken : Taken left old before new after text
-    pub coming : IsNext new (left after) following
+    pub coming : IsNext new following
     pub ready : Ready old.at k text following m
     pub grown : (outer_of k ≡ end) ⊎ Ended end k m
     pub nested : nested_in m ≤ length text
@@ -142,7 +138,7 @@ module _ {S : Type 0} (left : S → Option (List ℕ)) where
   below-of : (old new : Held) (before after : S) (t : List ℕ) → Taken left old before new after t → new.at < 2 ^ 25 → length t < 2 ^ 25 - old.at
   below-of old new before after t x h = omega (arith, x.count, h)
 
-  seen-of : (old new : Held) (before after : S) (t r : List ℕ) (following : Option ℕ) → Taken left old before new after t → IsNext new (left after) following → RestIs following r → Seen (2 ^ 25 - old.at) t r
+  seen-of : (old new : Held) (before after : S) (t r : List ℕ) (following : Option ℕ) → Taken left old before new after t → IsNext new following → RestIs following r → Seen (2 ^ 25 - old.at) t r
   seen-of old new before after t r None x n e = (room-of old new before after t x, inl e)
   seen-of old new before after t r (Some b) x n e = (room-of old new before after t x, inr (below-of old new before after t x n.1))
 
@@ -155,7 +151,7 @@ module _ {S : Type 0} (left : S → Option (List ℕ)) where
       subst (λ (z : Stack). Standing old.at 500 z m []) (sym e) (subst (λ (z : Mode). Standing old.at 500 (record { frames = []; forms = end; depth = 500 }) z []) (sym h)
       (closed-standing old.at 500 0 (record { frames = []; forms = end; depth = 500 }) 0 [] (record { built = bottom none; all = omega arith }) refl))
 
-  pub parsing-start : (old new : Held) (before after : S) (k : Stack) (m : Mode) (following : Option ℕ) → Taken left old before new after [] → IsNext new (left after) following → k ≡ record { frames = []; forms = end; depth = 500 } → m ≡ word 0 []
+  pub parsing-start : (old new : Held) (before after : S) (k : Stack) (m : Mode) (following : Option ℕ) → Taken left old before new after [] → IsNext new following → k ≡ record { frames = []; forms = end; depth = 500 } → m ≡ word 0 []
       → Parsing old before new after k m following
   parsing-start old new before after k m following x n e h = record {
     text = [];
@@ -199,7 +195,7 @@ module _ {S : Type 0} (left : S → Option (List ℕ)) where
         ];
       }
     where
-      form_of : {m : Mode} → Ready old.at k s.text following m → m ≡ word 0 [] → After old.at 500 k s.text × (IsTrue (is_closed s.text) ⊎ ((following : Option ℕ) × IsNext new (left after) following × IsApart s.text following))
+      form_of : {m : Mode} → Ready old.at k s.text following m → m ≡ word 0 [] → After old.at 500 k s.text × (IsTrue (is_closed s.text) ⊎ ((following : Option ℕ) × IsNext new following × IsApart s.text following))
       form_of (between a e) i = (a, inr (following, s.coming, apart-of s.text following e))
       form_of {m = n} (inside x c) i = let known = standing-after old.at k n s.text x i in (known.0, inl known.1)
 
@@ -207,15 +203,15 @@ module _ {S : Type 0} (left : S → Option (List ℕ)) where
   settled-none old new before after k m following s h = none-whole end k m s.grown refl h
 
   pub settled-stepped : (old new mid : Held) (before after : S) (k j : Stack) (m n : Mode) (b : ℕ) → Settled old before new after k m (Some b) → outer_of k ≡ end → stepped new.at k m b ≡ live j n
-      → (Begins new b → new.bytes ≡ b ∷ mid.bytes) → mid.at ≡ new.at + 1 → Stepped old before mid after j n
-  settled-stepped old new mid before after k j m n b s o e moved count =
+      → (Begins new b → new.bytes ≡ b ∷ mid.bytes) → mid.at ≡ new.at + 1 → mid.told ≡ new.told → Stepped old before mid after j n
+  settled-stepped old new mid before after k j m n b s o e moved count same =
       let here : new.at ≡ old.at + length s.text = (s.taken).count in
       let below = below-of old new before after s.text s.taken (s.coming).1 in
       let stepped_is : stepped (old.at + length s.text) k m b ≡ live j n = ap (λ (z : ℕ). stepped z k m b) (sym here) ∙ e in
       let right : IsRight old.at 500 (2 ^ 25 - old.at) (s.text ++ b ∷ []) (live j n) =
       subst (λ (z : State). IsRight old.at 500 (2 ^ 25 - old.at) (s.text ++ b ∷ []) z) stepped_is (stepped-right old.at (2 ^ 25 - old.at) k s.text b below m s.ready) in
       let grew : Grown (outer_of k) (nested_in m + 1) (live j n) = subst (λ (z : State). Grown (outer_of k) (nested_in m + 1) z) e (stepped-grown new.at k m b) in
-      let one : Taken left new after mid after (b ∷ []) = taken-one left new mid after b (moved (s.coming).0) count (s.coming).1 in
+      let one : Taken left new after mid after (b ∷ []) = taken-one left new mid after b (moved (s.coming).0) count same (s.coming).1 in
       let longer : length (s.text ++ b ∷ []) ≡ length s.text + 1 = grind (arith, common_steps) in
       record {
         text = s.text ++ b ∷ [];
@@ -241,7 +237,7 @@ module _ {S : Type 0} (left : S → Option (List ℕ)) where
   pub stepped-none : (old new : Held) (before after : S) (k : Stack) (m : Mode) → Stepped old before new after k m → (k.frames ≡ [] → k.forms ≡ end) → outer_of k ≡ end
   stepped-none old new before after k m s h = none-whole end k m s.grown refl h
 
-  pub stepped-parsing : (old new last : Held) (before after later : S) (k : Stack) (m : Mode) (following : Option ℕ) → Stepped old before new after k m → outer_of k ≡ end → Taken left new after last later [] → IsNext last (left later) following
+  pub stepped-parsing : (old new last : Held) (before after later : S) (k : Stack) (m : Mode) (following : Option ℕ) → Stepped old before new after k m → outer_of k ≡ end → Taken left new after last later [] → IsNext last following
       → Parsing old before last later k m following
   stepped-parsing old new last before after later k m following s o x n =
       record { text = s.text; taken = taken-looked left old new last before after later s.text s.taken x; coming = n; standing = s.standing; outside = o; nested = s.nested }
@@ -260,10 +256,11 @@ module _ {S : Type 0} (left : S → Option (List ℕ)) where
       (λ r e. record {
         text = t;
         holds = held;
-        none = f;
-        taken = subst (λ (z : Option (List ℕ)). Consumes (Some (t ++ r)) z t) (sym e ∙ none_in_hand new (left after) f) refl;
+        none = f.0;
+        untold = not_told old.told new.told (λ h. (x.kept h).0) f.1;
+        taken = subst (λ (z : Option (List ℕ)). Consumes (Some (t ++ r)) z t) (sym e ∙ none_in_hand new (left after) f.0 f.1) refl;
         first = elim x.asked [
-          | inl same ↦ ([], sym (same.1 ∙ ap (λ (z : List ℕ). t ++ z) f ∙ append-nil t) ∙ sym (append-nil old.bytes))
+          | inl same ↦ ([], sym (same.1 ∙ ap (λ (z : List ℕ). t ++ z) f.0 ∙ append-nil t) ∙ sym (append-nil old.bytes))
           | inr more ↦ more
         ];
       })
@@ -272,7 +269,7 @@ module _ {S : Type 0} (left : S → Option (List ℕ)) where
       let full : length t ≡ 2 ^ 25 - old.at = omega (arith, x.count, f.0) in
       at-rest (ahead old (left before)) (ahead new (left after)) t (λ (z : List ℕ). IsMet old z new (left after) FileTooLong) x.known
       (λ r e.
-      let told = ahead_rest new.bytes (left after) r e in
+      let told = ahead_rest new.bytes (behind new.told (left after)) r e in
       let begun : r ≡ (f.1).0 ∷ (((f.1).1).0 ++ told.0) = told.2 ∙ ap (λ (z : List ℕ). z ++ told.0) ((f.1).1).1 in
       subst (λ (z : List ℕ). Reads 500 (2 ^ 25 - old.at) (t ++ z) end too_long) (sym begun) (past (f.1).0 (((f.1).1).0 ++ told.0) held full))
 

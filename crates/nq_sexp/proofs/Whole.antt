@@ -1,10 +1,10 @@
 -- The forms that were read, call by call, are those of the whole text.
-use Rattle.std.proofs.Common.{◌≡◌, ℕ, ◌+◌, ◌-◌, ◌^◌, ◌<◌, ◌≤◌, List, [], ◌∷◌, ◌++◌, length, refl, ap, sym, ◌∙◌, subst, arith, append_assoc, append-nil, inl, inr}
-use Rattle.std.specs.Prelude.{◌⊎◌, Option, None, Some, IfSome, IsTrue}
-use Rattle.std.specs.Io.KnownBytes.{Consumes, IsAtEnd, prepend_known}
+use Rattle.std.proofs.Common.{true, false, ◌≡◌, ℕ, ◌+◌, ◌-◌, ◌^◌, ◌<◌, ◌≤◌, List, [], ◌∷◌, ◌++◌, length, refl, ap, sym, ◌∙◌, subst, arith, append_assoc, append-nil, inl, inr}
+use Rattle.std.specs.Prelude.{◌⊎◌, Option, None, Some, IfSome, IsTrue, Bool}
+use Rattle.std.specs.Io.KnownBytes.{Consumes}
 use Rattle.std.proofs.lemmas.Grind.{common_steps}
 use Rattle.nq_form.specs.Form.{Form, Forms, end, next, append, push}
-use Rattle.nq_sexp.specs.Held.{Held, ahead, Begins, IsNext}
+use Rattle.nq_sexp.specs.Held.{Held, behind, ahead, Begins, IsNext}
 use Rattle.nq_form.specs.Bytes.{is_closed, begins_apart}
 use Rattle.nq_form.specs.Kinds.{kind_of}
 use Rattle.nq_form.specs.Grammar.{shifted, Items, none, Holds, holds, Seam, Reads, Ending, done, fault, too_long, past}
@@ -19,6 +19,7 @@ use Rattle.nq_form.proofs.Naming.{named, dot_kind}
 use Rattle.nq_form.proofs.Seams.{joins, open-join, reads-join}
 use Rattle.nq_form.proofs.Standing.{items-nothing}
 use Rattle.nq_form.proofs.Spelling.{closed-append, apart-front}
+use Rattle.nq_sexp.proofs.Reading.{behind-end, none_in_hand}
 use Rattle.nq_sexp.proofs.Parsing.{ahead_rest}
 
 consumed_rest : (now later : Option (List ℕ)) (rest u : List ℕ) → now ≡ Some rest → Consumes now later u → (r : List ℕ) × (later ≡ Some r) × (rest ≡ u ++ r)
@@ -30,23 +31,26 @@ plain : {A B C : Type 0} → A ⊎ (B × C) → A ⊎ B
 plain (inl h) = inl h
 plain (inr h) = inr h.0
 
+told_and_not : (told : Bool) → IsTrue told → told ≡ false → ⊥
+told_and_not told h e = let same : true ≡ false = sym h ∙ e in cc
+
 -- what stands behind a form
-form_ended : (held : Held) (left : Option (List ℕ)) (u rest : List ℕ) → ahead held left ≡ Some rest → IsTrue (is_closed u) ⊎ ((following : Option ℕ) × IsNext held left following × IsApart u following)
+form_ended : (held : Held) (left : Option (List ℕ)) (u rest : List ℕ) → ahead held left ≡ Some rest → IsTrue (is_closed u) ⊎ ((following : Option ℕ) × IsNext held following × IsApart u following)
     → IsTrue (is_closed u) ⊎ (IsTrue (begins_apart rest) × IsSeen held rest)
 form_ended held left u rest e (inl k) = inl k
 form_ended held left u rest e (inr k) = ended_by k.0 k.1 k.2
   where
-    told : (xs : List ℕ) × (left ≡ Some xs) × (rest ≡ held.bytes ++ xs)
-    told = ahead_rest held.bytes left rest e
+    told : (xs : List ℕ) × (behind held.told left ≡ Some xs) × (rest ≡ held.bytes ++ xs)
+    told = ahead_rest held.bytes (behind held.told left) rest e
 
     in_hand : (b : ℕ) → Begins held b → 0 < length held.bytes
     in_hand b h = subst (λ (z : List ℕ). 0 < length z) (sym h.1) (omega arith)
 
-    ended_by : (following : Option ℕ) → IsNext held left following → IsApart u following → IsTrue (is_closed u) ⊎ (IsTrue (begins_apart rest) × IsSeen held rest)
+    ended_by : (following : Option ℕ) → IsNext held following → IsApart u following → IsTrue (is_closed u) ⊎ (IsTrue (begins_apart rest) × IsSeen held rest)
     ended_by None n a =
-        let at_end : told.0 ≡ [] = subst (λ (z : Option (List ℕ)). IsAtEnd z) told.1 n.1 in
+        let at_end : told.0 ≡ [] = behind-end held.told left told.0 n.1 told.1 in
         let no_rest : rest ≡ [] = told.2 ∙ ap (λ (z : List ℕ). z ++ told.0) n.0 ∙ at_end in
-        inr (subst (λ (z : List ℕ). IsTrue (begins_apart z)) (sym no_rest) refl, inl no_rest)
+        inr (subst (λ (z : List ℕ). IsTrue (begins_apart z)) (sym no_rest) refl, inl (no_rest, n.1))
     ended_by (Some b) n (inl k) = inl k
     ended_by (Some b) n (inr k) =
         let begun : rest ≡ b ∷ (n.0.0 ++ told.0) = told.2 ∙ ap (λ (z : List ℕ). z ++ told.0) n.0.1 in
@@ -83,12 +87,12 @@ split-more all old new now then u fs f s c q e h ended =
     }
 
 -- before the first form
-pub so_far-start : (start : Option (List ℕ)) (held : Held) (left : Option (List ℕ)) → held.bytes ≡ [] → held.at ≡ 0 → left ≡ start → SoFar start held left end
-so_far-start None held left b a e = tt
-so_far-start (Some all) held left b a e = record {
+pub so_far-start : (start : Option (List ℕ)) (held : Held) (left : Option (List ℕ)) → held.bytes ≡ [] → held.at ≡ 0 → held.told ≡ false → left ≡ start → SoFar start held left end
+so_far-start None held left b a untold e = tt
+so_far-start (Some all) held left b a untold e = record {
   text = [];
   rest = all;
-  known = ap (λ (z : List ℕ). prepend_known z left) b ∙ ap (λ (z : Option (List ℕ)). prepend_known [] z) e;
+  known = none_in_hand held left b untold ∙ e;
   whole = refl;
   spelled = none;
   count = a;
@@ -125,7 +129,7 @@ read_more all held now fs e s r =
   where
     room_seam : (t r : List ℕ) → IsTrue (is_closed t) ⊎ (IsTrue (begins_apart r) × IsSeen held r) → IsTrue (is_closed t) ⊎ (IsTrue (begins_apart r) × ((r ≡ []) ⊎ (0 < 2 ^ 25 - held.at)))
     room_seam t r (inl h) = inl h
-    room_seam t r (inr h) = inr (h.0, elim h.1 [ inl e ↦ inl e | inr seen ↦ let below = seen.0 in inr (omega (arith, below)) ])
+    room_seam t r (inr h) = inr (h.0, elim h.1 [ inl e ↦ inl e.0 | inr seen ↦ let below = seen.0 in inr (omega (arith, below)) ])
 
 -- the end was met
 pub so_far-end : (start : Option (List ℕ)) (held : Held) (left : Option (List ℕ)) (fs : Forms) → SoFar start held left fs → IfSome (ahead held left) (λ rest. Reads 500 (2 ^ 25 - held.at) rest end done)
@@ -145,31 +149,31 @@ holds-join levels t u fs gs p (holds {s = s} {o = o} {d = d} {n = n} {t = v} {v 
     (holds (open-join s o d n levels t v fs gs p q m (apart-front t v x (plain k))) m (seam-holds t v x i k) g)
 
 read_cut : (all : List ℕ) (held new : Held) (now after : Option (List ℕ)) (fs : Forms) → (s : Split all held now fs) → IsCut held s.rest new after → IsEnding all fs after Read
-read_cut all held new now after fs s cut = go after cut.text cut.holds cut.taken cut.first
+read_cut all held new now after fs s cut = go after cut.text cut.holds cut.untold cut.taken cut.first
   where
     whole_end : (more : List ℕ) → s.rest ≡ more → all ≡ (s.text ++ []) ++ more
     whole_end more e = s.whole ∙ ap (λ (z : List ℕ). s.text ++ z) e ∙ ap (λ (z : List ℕ). z ++ more) (sym (append-nil s.text))
 
     -- no byte was taken
-    alone : (more : List ℕ) → s.rest ≡ more → Holds 500 [] end → held.bytes ≡ [] → IsTrue (is_closed s.text) ⊎ (IsTrue (begins_apart s.rest) × IsSeen held s.rest) → IsEnding all fs (Some more) Read
-    alone more e h empty (inl k) = (s.text ++ [], more, whole_end more e, refl, inl (subst (λ (z : Forms). Holds 500 (s.text ++ []) z) (append-end fs) (holds-join 500 s.text [] fs end s.spelled h (inl k))))
-    alone more e h empty (inr (k, inl at_end)) = (s.text, more, s.whole ∙ ap (λ (z : List ℕ). s.text ++ z) e, refl, inr (s.spelled, sym e ∙ at_end))
-    alone more e h empty (inr (k, inr in_hand)) = absurd (let some = in_hand.1 in omega (arith, some, ap length empty))
+    alone : (more : List ℕ) → s.rest ≡ more → Holds 500 [] end → held.told ≡ false → held.bytes ≡ [] → IsTrue (is_closed s.text) ⊎ (IsTrue (begins_apart s.rest) × IsSeen held s.rest) → IsEnding all fs (Some more) Read
+    alone more e h untold empty (inl k) = (s.text ++ [], more, whole_end more e, refl, subst (λ (z : Forms). Holds 500 (s.text ++ []) z) (append-end fs) (holds-join 500 s.text [] fs end s.spelled h (inl k)))
+    alone more e h untold empty (inr (k, inl at_end)) = absurd (told_and_not held.told at_end.1 untold)
+    alone more e h untold empty (inr (k, inr in_hand)) = absurd (let some = in_hand.1 in omega (arith, some, ap length empty))
 
     nothing_before : (xs ys : List ℕ) → [] ≡ xs ++ ys → xs ≡ []
     nothing_before [] ys e = refl
     nothing_before (x ∷ xs) ys e = cc
 
-    go : (after : Option (List ℕ)) (u : List ℕ) → Holds 500 u end → Consumes (Some s.rest) after u → (more : List ℕ) × (u ≡ held.bytes ++ more) → IsEnding all fs after Read
-    go None u h c first = absurd c
-    go (Some more) [] h c first = alone more c h (nothing_before held.bytes first.0 first.1) s.seam
-    go (Some more) (b ∷ u) h c first =
+    go : (after : Option (List ℕ)) (u : List ℕ) → Holds 500 u end → held.told ≡ false → Consumes (Some s.rest) after u → (more : List ℕ) × (u ≡ held.bytes ++ more) → IsEnding all fs after Read
+    go None u h untold c first = absurd c
+    go (Some more) [] h untold c first = alone more c h untold (nothing_before held.bytes first.0 first.1) s.seam
+    go (Some more) (b ∷ u) h untold c first =
         let seam : IsTrue (is_closed s.text) ⊎ IsTrue (begins_apart (b ∷ u)) = apart-front s.text (b ∷ u) more (subst (λ (z : List ℕ). IsTrue (is_closed s.text) ⊎ IsTrue (begins_apart z)) c (plain s.seam)) in (
           s.text ++ b ∷ u,
           more,
           s.whole ∙ ap (λ (z : List ℕ). s.text ++ z) c ∙ sym (append_assoc s.text (b ∷ u) more),
           refl,
-          inl (subst (λ (z : Forms). Holds 500 (s.text ++ b ∷ u) z) (append-end fs) (holds-join 500 s.text (b ∷ u) fs end s.spelled h (elim seam [ inl k ↦ inl k | inr k ↦ inr (k, omega arith) ]))),
+          subst (λ (z : Forms). Holds 500 (s.text ++ b ∷ u) z) (append-end fs) (holds-join 500 s.text (b ∷ u) fs end s.spelled h (elim seam [ inl k ↦ inl k | inr k ↦ inr (k, omega arith) ])),
         )
 
 fault_at : (all : List ℕ) (held : Held) (code place : ℕ) (now : Option (List ℕ)) (fs : Forms) → Split all held now fs → IfSome now (λ rest. (k : ℕ) × (place ≡ held.at + k) × Reads 500 (2 ^ 25 - held.at) rest end (fault code k))
@@ -193,21 +197,15 @@ so_far-fault (Some all) held new left after fs Read s r =
     read_cut all held new (ahead held left) after fs s (subst (λ (z : Option (List ℕ)). IfSome z (λ rest. IsMet held rest new after Read)) s.known r)
 so_far-fault (Some all) held new left after fs Memory s r = tt
 
--- what was taken, where bytes are left, is known, and so are the forms in it
+-- what was taken is known, and so are the forms in it
 pub one_list_law : OneListWhereReadsFail
-one_list_law all fs gs byte more p q =
-    let left_one : p.1 ≡ byte ∷ more = cc in
-    let left_two : q.1 ≡ byte ∷ more = cc in
-    let one : all ≡ p.0 ++ (byte ∷ more) = p.2 ∙ ap (λ (z : List ℕ). p.0 ++ z) left_one in
-    let two : all ≡ q.0 ++ (byte ∷ more) = q.2 ∙ ap (λ (z : List ℕ). q.0 ++ z) left_two in
-    let same : q.0 ≡ p.0 = append_cancel_right q.0 p.0 (byte ∷ more) (sym two ∙ one) in
-    let first : Holds 500 p.0 fs = held_so p.0 p.1 fs left_one p.4 in
-    let second : Holds 500 p.0 gs = subst (λ (z : List ℕ). Holds 500 z gs) same (held_so q.0 q.1 gs left_two q.4) in
-    (one_reading 500 (length p.0) (p.0 ++ byte ∷ more) fs gs too_long too_long (past byte more first refl) (past byte more second refl)).0
-  where
-    held_so : (taken rest : List ℕ) (forms : Forms) → rest ≡ byte ∷ more → Holds 500 taken forms ⊎ (Items 500 taken forms × (rest ≡ [])) → Holds 500 taken forms
-    held_so taken rest forms some (inl h) = h
-    held_so taken rest forms some (inr h) = let none : byte ∷ more ≡ [] = sym some ∙ h.1 in cc
+one_list_law all fs gs left p q =
+    let lefts : Some p.1 ≡ Some q.1 = sym p.3 ∙ q.3 in
+    let rests : q.1 ≡ p.1 = cc in
+    let two : all ≡ q.0 ++ p.1 = q.2 ∙ ap (λ (z : List ℕ). q.0 ++ z) rests in
+    let same : q.0 ≡ p.0 = append_cancel_right q.0 p.0 p.1 (sym two ∙ p.2) in
+    let second : Holds 500 p.0 gs = subst (λ (z : List ℕ). Holds 500 z gs) same q.4 in
+    (one_reading 500 (length p.0) (p.0 ++ 0 ∷ []) fs gs too_long too_long (past 0 [] p.4 refl) (past 0 [] second refl)).0
 
 pub some_forms : (start left : Option (List ℕ)) (fs : Forms) (e : ReadFault) → IfSome start (λ all. IsEnding all fs left e) → IfSome start (λ all. (forms : Forms) × IsEnding all forms left e)
 some_forms None left fs e h = tt

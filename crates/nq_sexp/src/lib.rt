@@ -7,8 +7,9 @@
 //!
 //! It reads as the grammar's machine does, byte by byte: `stack` holds what is open and the whole forms
 //! in it, `scan` what has begun behind them, `token` says what a token is, and `input` asks the source
-//! for more only where no byte is in hand. A form is a [`Sexp`] in an arena, which is reset between
-//! events.
+//! for more only where no byte is in hand, and never behind the end that the source told. So a read
+//! that fails never comes behind a symbol or numeral that stands whole at the end of a text. A form is
+//! a [`Sexp`] in an arena, which is reset between events.
 #![tactic(auto)]
 
 mod bytes;

@@ -1,5 +1,5 @@
 // Reads one form after another from a source.
-ghost use Rattle.std.specs.Prelude.{◌≡◌, ◌≤◌, ◌-◌, ◌^◌, [], ℕ, List, true, Some, is_ok, IfOk, IfErr, IfNone, IfSome, IsTrue, IsErrOf};
+ghost use Rattle.std.specs.Prelude.{◌≡◌, ◌≤◌, ◌-◌, ◌^◌, [], ℕ, List, true, false, Some, is_ok, IfOk, IfErr, IfNone, IfSome, IsTrue, IsErrOf};
 ghost use Rattle.nq_io.specs.Faults.{Rose};
 ghost use Rattle.nq_form.specs.Form.{Forms, end};
 ghost use Rattle.nq_form.specs.Grammar.{Reads, done};
@@ -23,7 +23,7 @@ const LEVELS: u16 = 500;
 /// The next byte, which stays in hand. There is none past the limit of a file.
 fn look<S: Source>(input: &mut Input, source: &mut S) -> Result<Option<u8>, ReadFault>
     ensures taken { Taken S.left input.old source.old input.new source.new [] }
-    ensures next { IfOk result (λ next. IsNext input.new (S.left source.new) next) }
+    ensures next { IfOk result (λ next. IsNext input.new next) }
     ensures fault { IfErr result (λ fault. IsLookFault input.new fault) }
     ensures later { S.faults source.old ≤ S.faults source.new }
     ensures read { IsErrOf result ReadFault.Read → Rose (S.faults source.old) (S.faults source.new) }
@@ -96,7 +96,7 @@ impl Model for Reader {
 impl Reader {
     /// A reader at the beginning of a text.
     pub fn new(alloc: Global) -> Self
-        ensures { result ≡ record { held = record { bytes = []; at = 0 }; live = true } }
+        ensures { result ≡ record { held = record { bytes = []; at = 0; told = false }; live = true } }
     {
         Reader {
             alloc,
@@ -112,7 +112,8 @@ impl Reader {
         self.live
     }
 
-    /// The next form, or none at the end. After a fault the reader reads no more.
+    /// The next form, or none at the end. After a fault the reader reads no more, and a source that told its end is not
+    /// asked again.
     pub fn next<'a, S: Source>(
         &mut self,
         arena: &'a Bump,
@@ -149,8 +150,8 @@ pub fn read_all<'a, S: Source>(
     Ok(forms)
 }
 
-/// Where a read failed before the end of the text, the forms that stand whole in the bytes taken are one list: a symbol or
-/// numeral at their end is no form yet, since the next byte may carry it on.
+/// Where a read failed, the forms that stand whole in the bytes taken are one list: a symbol or numeral at their end is no
+/// form yet, since the next byte may carry it on, and a source that told its end is not asked again.
 pub fn failed_reads_have_one_list()
     ensures { OneListWhereReadsFail }
 {}

@@ -31,7 +31,7 @@ use Rattle.nq_stuck.proofs.CallLemmas.{inner_applied}
 use Rattle.nq_stuck.proofs.StandingLemmas.{one_of, stands_found}
 
 -- a rule of a shell that an event adds
-record OfShell (events : List Event) (rule : ElimRule) : Type 0 where
+pub record OfShell (events : List Event) (rule : ElimRule) : Type 0 where
   pub shell : Shell
   pub added : (x : Name) → has_name x (map (λ part. part.accessor) shell.parts) ≡ true → has_name x (accessors (events_shells events)) ≡ true
   pub rule_is : IsAmong rule (shell_rules shell)
@@ -107,12 +107,12 @@ not_distinct : (t : Term) (part : Part) (parts : List Part) (seen : List Name) �
 not_distinct t part [] seen = refl
 not_distinct t part (next ∷ parts) seen = not_distinct (Applied t (Applied (Function part.accessor) whole)) next parts seen
 
-whole_not_distinct : (s : Shell) (parts : List Part) → has_parts (map (λ part. part.accessor) parts) ≡ true → has_distinct_variables [] (call s.constructor (accessed whole parts)) ≡ false
+pub whole_not_distinct : (s : Shell) (parts : List Part) → has_parts (map (λ part. part.accessor) parts) ≡ true → has_distinct_variables [] (call s.constructor (accessed whole parts)) ≡ false
 whole_not_distinct s [] e = absurd (cc)
 whole_not_distinct s (part ∷ parts) e = not_distinct (Function s.constructor) part parts []
 
 -- the call of an accessor on X
-record AccessorOn (parts : List Part) (d : Term) : Type 0 where
+pub record AccessorOn (parts : List Part) (d : Term) : Type 0 where
   pub accessor : List ℕ
   pub named : has_name accessor (map (λ part. part.accessor) parts) ≡ true
   pub is : d ≡ Applied (Function accessor) whole
@@ -148,7 +148,7 @@ left_true true b e = refl
 left_true false b e = e
 
 -- a destructor call of the rule is the call of an accessor on X
-destructor_is : (s : Shell) (d : Term) → has_parts (map (λ part. part.accessor) s.parts) ≡ true → IsAmong d (parts_in (remade s)) → is_destructor_call (codes "X") d ≡ true → AccessorOn s.parts d
+pub destructor_is : (s : Shell) (d : Term) → has_parts (map (λ part. part.accessor) s.parts) ≡ true → IsAmong d (parts_in (remade s)) → is_destructor_call (codes "X") d ≡ true → AccessorOn s.parts d
 destructor_is s d some (inl e) is =
     let apart : has_distinct_variables [] d ≡ true = left_true (has_distinct_variables [] d) (has_argument (codes "X") d) is in
     let never : has_distinct_variables [] d ≡ false = ap (has_distinct_variables []) e ∙ whole_not_distinct s s.parts some in
@@ -159,7 +159,7 @@ destructor_is s d some (inr inner) is =
       | inr w ↦ let never : is_destructor_call (codes "X") d ≡ false = ap (is_destructor_call (codes "X")) w in absurd (cc)
     ]
 
-chosen_in : (test : Term → Bool) (d : Term) (ts : List Term) → IsAmong d (chosen_from test ts) → IsAmong d ts × (test d ≡ true)
+pub chosen_in : (test : Term → Bool) (d : Term) (ts : List Term) → IsAmong d (chosen_from test ts) → IsAmong d ts × (test d ≡ true)
 chosen_in test d [] m = absurd m
 chosen_in test d (t ∷ ts) m = by_test (λ n. chosen_in test d ts n) (test t) refl m
   where
@@ -178,7 +178,7 @@ without_in d t (u ∷ c) m = by_test (λ n. without_in d t c n) (same_term t u) 
     by_test later false (inl is) = inl is
     by_test later false (inr n) = inr (later n)
 
-distinct_from : (d : Term) (ts : List Term) → IsAmong d (distinct ts) → IsAmong d ts
+pub distinct_from : (d : Term) (ts : List Term) → IsAmong d (distinct ts) → IsAmong d ts
 distinct_from d [] m = absurd m
 distinct_from d (t ∷ ts) (inl is) = inl is
 distinct_from d (t ∷ ts) (inr m) = inr (distinct_from d ts (without_in d t (distinct ts) m))
@@ -198,7 +198,7 @@ standing f (d ∷ ds) goal e =
     ]
 
 -- a call on a variable is no value
-call_no_value : (f : List ℕ) (x : List ℕ) → is_value (Applied (Function f) (Variable x)) ≡ false
+pub call_no_value : (f : List ℕ) (x : List ℕ) → is_value (Applied (Function f) (Variable x)) ≡ false
 unfolding number_of is_tree_value
 call_no_value f x = by_tests (bytes_eq f (codes "ADD1")) (bytes_eq f (codes "PACK")) (bytes_eq f (codes "MINUS"))
   where
@@ -212,21 +212,20 @@ call_no_value f x = by_tests (bytes_eq f (codes "ADD1")) (bytes_eq f (codes "PAC
     by_tests false false true = refl
     by_tests false false false = refl
 
-any_among : (test : Term → Bool) (t : Term) (ts : List Term) → IsAmong t ts → test t ≡ true → list_any test ts ≡ true
+pub any_among : (test : Term → Bool) (t : Term) (ts : List Term) → IsAmong t ts → test t ≡ true → list_any test ts ≡ true
 any_among test t [] m e = absurd m
 any_among test t (u ∷ ts) (inl is) e = ap (λ b. b || list_any test ts) (ap test (sym is) ∙ e)
 any_among test t (u ∷ ts) (inr m) e = right_either (test u) (list_any test ts) (any_among test t ts m e)
 
 module _ (h : History) (hints : Hints) (goal : Clause) (e : Eliminating) (candidate : EliminateCandidate h hints goal e) where
   -- the call of an accessor on a variable that stands in the goal
-  record Accessed : Type 0 where
+  pub record Accessed : Type 0 where
     pub accessor : List ℕ
     pub named : has_name accessor (accessors (shells_of h)) ≡ true
     pub stands : stands_in_one (Applied (Function accessor) (Variable e.variable)) goal ≡ true
 
-  accessed_in : list_any is_elim_event (all_events h) ≡ false → Accessed
-  accessed_in none =
-      let of = rules_of_shells h hints e.rule (all_events h) none candidate.enabled in
+  pub accessed_by : OfShell (all_events h) e.rule → Accessed
+  accessed_by of =
       let rule = rule_of of.shell e.rule of.rule_is in
       let found = standing (substituted (renaming_of e)) (destructors e.rule) goal candidate.stands in
       let d = found.element in
@@ -251,7 +250,7 @@ pub eliminates_none : (bank : Content) (h : History) (calls : List TermId) (goal
 eliminates_none bank h calls goal none held absent =
     record {
       none = λ hints e candidate.
-          let at = accessed_in h hints goal e candidate none in
+          let at = accessed_by h hints goal e candidate (rules_of_shells h hints e.rule (all_events h) none candidate.enabled) in
           let a = Applied (Function at.accessor) (Variable e.variable) in
           let found = stands_found bank calls goal a held refl (call_no_value at.accessor e.variable) at.stands in
           let there = any_among (is_accessor_call (shells_of h)) a (terms_at bank calls) found at.named in

@@ -8,14 +8,14 @@ use crate::fault::Fault;
 use nq_bank::{Bank, Node, TermId};
 use std::collections::HashMap;
 
-/// The most calls that are looked at.
-const CALL_LIMIT: usize = 2000;
+/// The most calls that are looked at where a goal is tested for candidates.
+pub const CALL_LIMIT: usize = 2000;
 
-/// Keeps a call.
-fn keep(found: &mut Vec<TermId>, t: TermId) -> Result<(), Fault>
+/// Keeps a call, where there are fewer than so many.
+fn keep(found: &mut Vec<TermId>, most: usize, t: TermId) -> Result<(), Fault>
     ensures { OnOk result (found.new.items ≡ found.old.items ++ t ∷ []) }
 {
-    if found.len() >= CALL_LIMIT {
+    if found.len() >= most {
         return Err(Fault::TooMany);
     }
     match found.push(t) {
@@ -46,6 +46,7 @@ fn add_calls(
     bank: &Bank,
     known: &mut HashMap<u64, bool>,
     found: &mut Vec<TermId>,
+    most: usize,
     t: TermId,
 ) -> Result<(), Fault>
     requires stands { Stands bank.now t }
@@ -63,9 +64,9 @@ fn add_calls(
             Some(_) => Ok(()),
             None => {
                 for a in bank.args(t) {
-                    add_calls(bank, known, found, *a)?;
+                    add_calls(bank, known, found, most, *a)?;
                 }
-                keep(found, t)?;
+                keep(found, most, t)?;
                 keep_known(known, t)?;
                 Ok(())
             }
@@ -73,8 +74,9 @@ fn add_calls(
     }
 }
 
-/// The calls that stand in these terms, each once. A value may be left out.
-pub fn calls_in(bank: &Bank, terms: &[TermId]) -> Result<Vec<TermId>, Fault>
+/// The calls that stand in these terms, each once and the inner ones first. A value may be left out. There are too many where there are
+/// more than the most that are asked for.
+pub fn calls_in(bank: &Bank, terms: &[TermId], most: usize) -> Result<Vec<TermId>, Fault>
     requires { All (Stands bank.now) terms.now }
     ensures holds { IfOk result (λ found. HoldsAll bank.now found.items (terms_at bank.now terms.now)) }
     ensures stand { IfOk result (λ found. All (Stands bank.now) found.items) }
@@ -82,7 +84,7 @@ pub fn calls_in(bank: &Bank, terms: &[TermId]) -> Result<Vec<TermId>, Fault>
     let mut known = HashMap::new(bank.alloc());
     let mut found = Vec::new(bank.alloc());
     for t in terms {
-        add_calls(bank, &mut known, &mut found, *t)?;
+        add_calls(bank, &mut known, &mut found, most, *t)?;
     }
     Ok(found)
 }

@@ -9,7 +9,7 @@ ghost use Rattle.nq_goals.specs.Functions.{propositional};
 ghost use Rattle.nq_goals.specs.Generalizing.{generalizings_of, kept_functions};
 ghost use Rattle.nq_stuck.specs.Common.{is_general, is_of_shell, has_common, HasNoneBalanced, HasNoneRepeated, IsUnbalanced, SharesNone};
 
-use crate::calls::calls_in;
+use crate::calls::{CALL_LIMIT, calls_in};
 use crate::equations::compared;
 use crate::fault::Fault;
 use crate::lists::{contains, is_both, is_either};
@@ -45,7 +45,7 @@ fn is_of_shell(bank: &Bank, shells: &[Shell], f: Sym) -> bool
 }
 
 /// Are calls of the function left as they are?
-fn is_kept(bank: &Bank, history: &History, f: Sym) -> bool
+pub fn is_kept(bank: &Bank, history: &History, f: Sym) -> bool
     requires history { HistoryStands bank.now history.now }
     requires name { IsNamed bank.now f }
     ensures { result ≡ has_name (text_at bank.now f) (kept_functions (events_at bank.now history.now)) }
@@ -103,8 +103,8 @@ fn shares_call(
     requires others { All (Stands bank.now) others.now }
     ensures { IfOk result (λ b. b ≡ false → SharesNone (events_at bank.now history.now) (terms_at bank.now these.now) (terms_at bank.now others.now)) }
 {
-    let left = calls_in(bank, these)?;
-    let right = calls_in(bank, others)?;
+    let left = calls_in(bank, these, CALL_LIMIT)?;
+    let right = calls_in(bank, others, CALL_LIMIT)?;
     Ok(has_common(bank, history, left.as_slice(), right.as_slice()))
 }
 

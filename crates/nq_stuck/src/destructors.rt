@@ -8,7 +8,7 @@ ghost use Rattle.nq_history.specs.Events.{all_events_at, class_of, event_at, eve
 ghost use Rattle.nq_goals.specs.Eliminating.{has_elim};
 ghost use Rattle.nq_stuck.specs.Destructors.{is_accessor_call, is_elim_event, is_variable, EliminatesNone};
 
-use crate::calls::calls_in;
+use crate::calls::{CALL_LIMIT, calls_in};
 use crate::fault::Fault;
 use crate::lists::{is_both, is_either};
 use crate::shells::is_accessor;
@@ -119,6 +119,6 @@ pub fn has_elimination(bank: &Bank, history: &History, goal: &[TermId]) -> Resul
     if has_elim_event(history.entries()) {
         return Ok(true);
     }
-    let calls = calls_in(bank, goal)?;
+    let calls = calls_in(bank, goal, CALL_LIMIT)?;
     Ok(has_accessor_call(bank, history.shells(), calls.as_slice()))
 }

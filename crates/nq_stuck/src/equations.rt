@@ -132,7 +132,7 @@ pub fn denied_equation(bank: &Bank, literal: TermId) -> Option<Sides>
 }
 
 /// A literal without its outer NOT.
-fn atom_of(bank: &Bank, literal: TermId) -> TermId
+pub fn atom_of(bank: &Bank, literal: TermId) -> TermId
     requires { Stands bank.now literal }
     ensures is { term_at bank.now result ≡ atom_of (term_at bank.now literal) }
     ensures stands { Stands bank.now result }
@@ -144,7 +144,7 @@ fn atom_of(bank: &Bank, literal: TermId) -> TermId
 }
 
 /// Is it EQUAL or LESSP?
-fn is_comparison(bank: &Bank, f: Sym) -> bool
+pub fn is_comparison(bank: &Bank, f: Sym) -> bool
     requires { IsNamed bank.now f }
     ensures { result ≡ (bytes_eq (text_at bank.now f) (codes "EQUAL") || bytes_eq (text_at bank.now f) (codes "LESSP")) }
 {

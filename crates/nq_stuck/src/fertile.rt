@@ -6,7 +6,7 @@ ghost use Rattle.nq_goals.specs.Fertilizing.{from_readings, from_literals};
 ghost use Rattle.nq_stuck.specs.Pairs.{sides_at, SidesStand};
 ghost use Rattle.nq_stuck.specs.Candidates.{can_replace};
 
-use crate::calls::calls_in;
+use crate::calls::{CALL_LIMIT, calls_in};
 use crate::equations::{Sides, denied_equation};
 use crate::fault::Fault;
 use crate::lists::{clause_without, contains};
@@ -23,7 +23,7 @@ fn can_replace(bank: &Bank, goal: &[TermId], literal: TermId, side: TermId) -> R
         return Ok(false);
     }
     let others = clause_without(bank, literal, goal)?;
-    let calls = calls_in(bank, others.as_slice())?;
+    let calls = calls_in(bank, others.as_slice(), CALL_LIMIT)?;
     Ok(contains(bank, side, calls.as_slice()))
 }
 

@@ -32,4 +32,9 @@ mod dropping;
 // goals
 mod goal;
 
+pub use calls::calls_in;
+pub use common::is_kept;
+pub use equations::{atom_of, is_comparison};
+pub use fault::Fault;
 pub use goal::{is_left_to_groups, is_left_to_induction, is_stuck};
+pub use shells::is_part;

@@ -9,7 +9,7 @@ ghost use Rattle.nq_goals.specs.Functions.{accessors, constructors};
 use nq_bank::{Bank, Part, Shell, Sym, is_same_name};
 
 /// Is it the accessor of one of these parts?
-fn is_part(bank: &Bank, parts: &[Part], f: Sym) -> bool
+pub fn is_part(bank: &Bank, parts: &[Part], f: Sym) -> bool
     requires parts { All (PartStands bank.now) parts.now }
     requires name { IsNamed bank.now f }
     ensures { result ≡ has_name (text_at bank.now f) (map (λ part. part.accessor) (parts_at bank.now parts.now)) }

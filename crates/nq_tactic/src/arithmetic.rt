@@ -7,6 +7,7 @@ ghost use Rattle.nq_lines.specs.Lines.{LineHasOnly};
 ghost use Rattle.nq_lines.specs.OwnTerms.{HasOwnTerms};
 ghost use Rattle.nq_search.specs.Goals.{IsGoalIn};
 
+use crate::numbers::numbers_in;
 use nq_arithmetic::{arithmetic_line_by_lemmas, kind_line};
 use nq_bank::TermId;
 use nq_history::{Hints, History};
@@ -23,7 +24,7 @@ fn line_of_number(work: &mut Work, history: &History, goal: &[TermId]) -> Result
     kind_line(work, history, goal)
 }
 
-/// The line of a goal by linear arithmetic.
+/// The line of a goal by linear arithmetic, which is told what the work knows of the goal's terms.
 fn linear_line(
     work: &mut Work,
     history: &History,
@@ -37,7 +38,8 @@ fn linear_line(
     ensures grows { WorkGrows history.now work.old work.new }
     ensures out { result ≡ Err Stop.OutOfSteps → work.new.counter.used ≡ work.new.counter.limit }
 {
-    arithmetic_line_by_lemmas(work, history, hints, goal)
+    let told = numbers_in(work, history, goal)?;
+    arithmetic_line_by_lemmas(work, history, hints, goal, told.as_slice())
 }
 
 /// The line of a goal that says of a number that it is one, or that linear arithmetic proves.

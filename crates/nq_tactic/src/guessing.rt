@@ -163,6 +163,21 @@ fn defined_body(history: &History, f: Sym) -> Option<TermId> {
     }
 }
 
+/// Is a function declared, and so not defined?
+pub fn is_declared(history: &History, f: Sym) -> bool {
+    match history.lookup(f) {
+        Some(e) => match &e.kind {
+            EntryKind::Dcl(_) => true,
+            EntryKind::Defn(_, _, _) => false,
+            EntryKind::Axiom(_, _) => false,
+            EntryKind::Lemma(_, _) => false,
+            EntryKind::Shell(_) => false,
+            EntryKind::Toggle(_, _) => false,
+        },
+        None => false,
+    }
+}
+
 /// The recognizer that may hold of all values of a function.
 fn guessed_kind(work: &Work, history: &History, f: Sym) -> Option<Sym>
     requires { WorkStands history.now work.now }

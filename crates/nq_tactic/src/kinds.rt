@@ -9,7 +9,7 @@ ghost use Rattle.nq_lines.specs.Facts.{IsFact};
 ghost use Rattle.nq_lines.specs.Lines.{IsTermIn};
 ghost use Rattle.nq_search.specs.Goals.{CanSearch};
 
-use crate::guessing::{functions_of, guessed_place, has_name, recognizer_at};
+use crate::guessing::{functions_of, guessed_place, has_name, is_declared, recognizer_at};
 use crate::order::TURNS;
 use crate::tactic::Waterfall;
 use nq_bank::{Sym, TermId, ground};
@@ -17,7 +17,7 @@ use nq_history::{Hints, History};
 use nq_kernel::{Prescription, Stop, Work, ready_histories};
 use nq_lines::{Fact, row_fact, sides_of};
 use nq_ready::own_terms;
-use nq_rewrite::{kind_line, one_call};
+use nq_rewrite::{kind_line, one_call, told_kind};
 use nq_search::{Plan, seek};
 
 /// Into how many parts the steps are divided of which the search for one kind gets one.
@@ -127,7 +127,7 @@ fn learn_kind(work: &mut Work, history: &History, hints: &Hints, f: Sym) -> Resu
     }
     match guessed_place(work, history, f) {
         Some(place) => learn_placed(work, history, hints, f, place),
-        None => Ok(()),
+        None => learn_declared(work, history, f),
     }
 }
 
@@ -142,6 +142,36 @@ fn learn_size(work: &mut Work, history: &History, f: Sym) -> Result<(), Stop>
     own_terms();
     match row_fact(work, history, f)? {
         Some(row) => remember(work, history, f, row.line),
+        None => Ok(()),
+    }
+}
+
+/// Learns of what kind the calls of a declared function are, if an axiom or a lemma says it.
+fn learn_declared(work: &mut Work, history: &History, f: Sym) -> Result<(), Stop>
+    requires stands { WorkStands history.now work.old }
+    requires ready { IsReady (events_at work.old.bank history.now) }
+    requires function { IsNamed work.old.bank f }
+    ensures grows { WorkGrows history.now work.old work.new }
+    ensures out { result ≡ Err Stop.OutOfSteps → work.new.counter.used ≡ work.new.counter.limit }
+{
+    if is_declared(history, f) {
+        learn_as_told(work, history, f)
+    } else {
+        Ok(())
+    }
+}
+
+/// The same, where it is declared.
+fn learn_as_told(work: &mut Work, history: &History, f: Sym) -> Result<(), Stop>
+    requires stands { WorkStands history.now work.old }
+    requires ready { IsReady (events_at work.old.bank history.now) }
+    requires function { IsNamed work.old.bank f }
+    ensures grows { WorkGrows history.now work.old work.new }
+    ensures out { result ≡ Err Stop.OutOfSteps → work.new.counter.used ≡ work.new.counter.limit }
+{
+    own_terms();
+    match told_kind(work, history, f)? {
+        Some(told) => remember(work, history, f, told.line),
         None => Ok(()),
     }
 }

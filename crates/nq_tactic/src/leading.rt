@@ -17,9 +17,10 @@ use crate::tested::tested_line;
 use crate::trivial::truth_line;
 use crate::way::Way;
 use nq_bank::TermId;
+use nq_generalize::generalize_move;
 use nq_history::{Hints, History};
 use nq_kernel::{MoveKind, Stop, Work};
-use nq_moves::{Moved, fertilize_move, generalize_move, irrelevant_move, substitute_move};
+use nq_moves::{Moved, fertilize_move, irrelevant_move, substitute_move};
 use nq_ready::own_terms;
 use nq_search::{Led, Plan};
 
@@ -140,7 +141,7 @@ fn move_of(
     match kind {
         MoveKind::Subst => substitute_move(work, history, hints, goal),
         MoveKind::Fert => fertilize_move(work, history, hints, goal),
-        MoveKind::Gen => generalize_move(work, history, hints, goal),
+        MoveKind::Gen => generalize_move(work, history, hints, &[], goal),
         MoveKind::Irr => irrelevant_move(work, history, hints, goal),
         MoveKind::Elim => Ok(None),
         MoveKind::Simp => Ok(None),

@@ -20,7 +20,10 @@ use nq_reduce::with_more;
 use nq_search::{Plan, seek};
 
 /// Into how many parts the steps are divided of which the first round gets one.
-const FIRST_PART: u64 = 8;
+const FIRST_PART: u64 = 32;
+
+/// Into how many parts the steps are divided of which the second round gets one.
+const SECOND_PART: u64 = 8;
 
 /// The plan of a search that ends at a count of steps.
 fn plan_until(until: u64) -> Plan {
@@ -36,10 +39,13 @@ fn plan_until(until: u64) -> Plan {
     }
 }
 
-/// Did a round end early enough that there was nothing more to try?
+/// Into how many parts the steps are divided of which a round that had nothing more to try needs less than one.
+const IDLE_PART: u64 = 500;
+
+/// Did a round end so early that there was nothing more to try?
 fn is_exhausted(work: &Work, before: u64) -> bool {
     let used = work.counter.used().saturating_sub(before);
-    used < work.counter.limit() / 64
+    used < work.counter.limit() / IDLE_PART
 }
 
 /// Seeks a line of a goal, where it is known first of what kind the calls of its functions are.
@@ -57,11 +63,12 @@ fn seek_rounds(
 {
     ready_histories();
     learn_kinds(work, history, hints, goal)?;
-    seek_twice(work, history, hints, goal)
+    seek_widening(work, history, hints, goal)
 }
 
-/// Seeks a line of a goal: first with few steps, and then with all.
-fn seek_twice(
+/// Seeks a line of a goal: first with few steps, then with more, and then with all. The later a round, the more of its steps go to
+/// the ways that come first.
+fn seek_widening(
     work: &mut Work,
     history: &History,
     hints: &Hints,
@@ -76,13 +83,55 @@ fn seek_twice(
     ready_histories();
     let before = work.counter.used();
     let plan = plan_until(before.saturating_add(work.counter.limit() / FIRST_PART));
+    match seek(work, &mut Waterfall::new(5), history, hints, plan, goal)? {
+        Some(line) => Ok(Some(line)),
+        None => seek_again(work, history, hints, goal, before),
+    }
+}
+
+/// The same, where the first round found none.
+fn seek_again(
+    work: &mut Work,
+    history: &History,
+    hints: &Hints,
+    goal: &[TermId],
+    before: u64,
+) -> Result<Option<u64>, Stop>
+    requires can { CanSearch history.now hints.now work.old }
+    requires goal { IsGoalIn history.now work.old goal.now }
+    ensures found { IfOk result (IsFound work.new (terms_at work.old.bank goal.now)) }
+    ensures grows { WorkGrows history.now work.old work.new }
+    ensures out { result ≡ Err Stop.OutOfSteps → work.new.counter.used ≡ work.new.counter.limit }
+{
+    if is_exhausted(work, before) {
+        return Ok(None);
+    }
+    seek_more(work, history, hints, goal)
+}
+
+/// The same, with more steps.
+fn seek_more(
+    work: &mut Work,
+    history: &History,
+    hints: &Hints,
+    goal: &[TermId],
+) -> Result<Option<u64>, Stop>
+    requires can { CanSearch history.now hints.now work.old }
+    requires goal { IsGoalIn history.now work.old goal.now }
+    ensures found { IfOk result (IsFound work.new (terms_at work.old.bank goal.now)) }
+    ensures grows { WorkGrows history.now work.old work.new }
+    ensures out { result ≡ Err Stop.OutOfSteps → work.new.counter.used ≡ work.new.counter.limit }
+{
+    ready_histories();
+    let before = work.counter.used();
+    let plan = plan_until(before.saturating_add(work.counter.limit() / SECOND_PART));
     match seek(work, &mut Waterfall::new(7), history, hints, plan, goal)? {
         Some(line) => Ok(Some(line)),
         None => seek_further(work, history, hints, goal, before),
     }
 }
 
-/// The same, where the first round found none.
+/// The same, where the second round found none: with all steps.
 fn seek_further(
     work: &mut Work,
     history: &History,

@@ -13,6 +13,7 @@ mod simplifying;
 
 // lines that close goals
 mod arithmetic;
+mod numbers;
 mod tested;
 mod trivial;
 

@@ -2,7 +2,7 @@
 use Rattle.std.proofs.Common.{◌≡◌, ◌∙◌, ◌<◌, ◌≤◌, ◌-◌, ℕ, List, [], ◌∷◌, length, get_or, drop, take, refl, sym, ap, ap₂, subst, arith}
 use Rattle.std.specs.Prelude.{All}
 use Rattle.std.proofs.lemmas.List.{take_all}
-use Rattle.nq_logic.specs.Terms.{Term}
+use Rattle.nq_logic.specs.Terms.{Term, IsTerm}
 use Rattle.nq_logic.specs.Histories.{History}
 use Rattle.nq_logic.specs.Ground.{symbols_of}
 use Rattle.nq_logic.specs.Words.{or_term}
@@ -37,3 +37,8 @@ pub overs_grown : (old new : Content) (history : List Entry) (ids : List TermId)
 overs_grown old new history ids h stands stand over = λ i d below.
     subst (IsTermOf IsVariable (symbols_of (events_at new history))) (sym (term_at-grown old new (get_or ids i d) h (stand i d below)))
     (subst (λ (es : History). IsTermOf IsVariable (symbols_of es) (term_at old (get_or ids i d))) (sym (events_at-grown old new h history stands.entries)) (over i d below))
+
+-- and so does a term over its functions
+pub over_grown : (old new : Content) (history : List Entry) (t : TermId) → Grows old new → HistoryStands old history → Stands old t → IsTerm (symbols_of (events_at old history)) (term_at old t) → IsTerm (symbols_of (events_at new history)) (term_at new t)
+over_grown old new history t h stands stand over =
+    subst (IsTerm (symbols_of (events_at new history))) (sym (term_at-grown old new t h stand)) (subst (λ (es : History). IsTerm (symbols_of es) (term_at old t)) (sym (events_at-grown old new h history stands.entries)) over)

@@ -22,7 +22,7 @@ use Rattle.nq_goals.specs.Inducting.{IsScheme, suggesting_among, suggesting_in, 
 use Rattle.nq_goals.specs.Moves.{IsMove, IsSubsumed, induction_limit, inducts, no_candidate}
 use Rattle.nq_tracer.specs.Falls.{Falls, left_out, DefinitionsFall}
 use Rattle.nq_tracer.specs.Cases.{IsSuggesting, CallsGiveCases, case_of}
-use Rattle.nq_tracer.specs.Leads.{IsInduction, IsDue}
+use Rattle.nq_tracer.specs.Leads.{IsInduction, IsInductionBy, IsInductionOf, IsDue}
 use Rattle.nq_tracer.proofs.FallLemmas.{matched_over, instance_over}
 
 -- ---- the definition is one of the history, or of the ground history
@@ -53,7 +53,11 @@ suggesting_found h t (u ∷ ts) (inr m) e = by_test (suggests_induction h u) (su
     by_test true i = inr i
     by_test false i = i
 
-module _ (fall : DefinitionsFall) (give : CallsGiveCases) (h : History) (d : Definition) (m t : Term) (goal : List Term) (ready : IsReady h) (suggesting : IsSuggesting h d m t) (kept : has_name d.function left_out ≡ false) (part : IsAmong t (parts_in_all goal)) where
+-- an induction of a call that stands in the goal is one of the goal
+pub induction_in : (h : History) (t : Term) (goal : List Term) (base step : Term) → IsAmong t (parts_in_all goal) → IsInductionOf h t goal base step → IsInduction h goal base step
+induction_in h t goal base step part i = i.by (suggesting_in h goal) (suggesting_found h t (parts_in_all goal) part i.suggests)
+
+module _ (fall : DefinitionsFall) (give : CallsGiveCases) (h : History) (d : Definition) (m t : Term) (goal : List Term) (ready : IsReady h) (suggesting : IsSuggesting h d m t) (kept : has_name d.function left_out ≡ false) where
   falls : Falls h d m
   falls = fall h d m ready (opened_among h t d suggesting.opened) suggesting.measure kept
 
@@ -63,9 +67,6 @@ module _ (fall : DefinitionsFall) (give : CallsGiveCases) (h : History) (d : Def
       ∙ ap (λ (o : Option Term). suggests_by d o (arguments_of t)) suggesting.measure
       ∙ suggesting.suggests
 
-  here_among : IsAmong t (suggesting_in h goal)
-  here_among = suggesting_found h t (parts_in_all goal) part suggests
-
   abbrev at_call : Term
   at_call = substituted (matched d.formals (arguments_of t)) m
 
@@ -74,13 +75,16 @@ module _ (fall : DefinitionsFall) (give : CallsGiveCases) (h : History) (d : Def
       instance_law h (matched d.formals (arguments_of t)) (call1 "ORDINALP" m ∷ []) falls.ordinal
       ((ordinalp_symbol h, instance_over (symbols_of h) (matched d.formals (arguments_of t)) (matched_over (symbols_of h) d.formals (arguments_of t) suggesting.over) m zero falls.over), tt)
 
-  pub induction_by : (c : Call) → IsAmong c (calls_of d.function d.body) → (p base step : Term) → p ≡ claim_of goal → base ≡ base_case p (case_of d m (arguments_of t) c ∷ []) → step ≡ step_case p (case_of d m (arguments_of t) c) → IsInduction h goal base step
+  pub induction_by : (c : Call) → IsAmong c (calls_of d.function d.body) → (p base step : Term) → p ≡ claim_of goal → base ≡ base_case p (case_of d m (arguments_of t) c ∷ []) → step ≡ step_case p (case_of d m (arguments_of t) c) → IsInductionOf h t goal base step
   induction_by c among p base step claim base_is step_is = record {
-    scheme = record { measure = at_call; cases = case_of d m (arguments_of t) c ∷ [] };
-    suggested = record { ordinal = ordinal; some_case = λ e. cc; cases = (give h d m t c (suggesting_in h goal) suggesting falls among here_among, tt) };
-    next =
-        ap (λ (x : Term). (x ∷ []) ∷ (step ∷ []) ∷ []) (base_is ∙ ap (λ (q : Term). base_case q (case_of d m (arguments_of t) c ∷ [])) claim)
-        ∙ ap (λ (x : Term). (base_case (claim_of goal) (case_of d m (arguments_of t) c ∷ []) ∷ []) ∷ (x ∷ []) ∷ []) (step_is ∙ ap (λ (q : Term). step_case q (case_of d m (arguments_of t) c)) claim);
+    suggests = suggests;
+    by = λ (calls : List Term) (here : IsAmong t calls). record {
+      scheme = record { measure = at_call; cases = case_of d m (arguments_of t) c ∷ [] };
+      suggested = record { ordinal = ordinal; some_case = λ e. cc; cases = (give h d m t c calls suggesting falls among here, tt) };
+      next =
+          ap (λ (x : Term). (x ∷ []) ∷ (step ∷ []) ∷ []) (base_is ∙ ap (λ (q : Term). base_case q (case_of d m (arguments_of t) c ∷ [])) claim)
+          ∙ ap (λ (x : Term). (base_case (claim_of goal) (case_of d m (arguments_of t) c ∷ []) ∷ []) ∷ (x ∷ []) ∷ []) (step_is ∙ ap (λ (q : Term). step_case q (case_of d m (arguments_of t) c)) claim);
+    };
   }
 
 -- ---- the move

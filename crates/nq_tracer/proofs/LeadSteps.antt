@@ -3,7 +3,7 @@ use Rattle.std.proofs.Common.{◌≡◌, ◌∙◌, ◌<◌, ◌≤◌, true, �
 use Rattle.std.specs.Prelude.{All, Option, Some, None, IfSome}
 use Rattle.std.specs.Option.{option_map}
 use Rattle.std.proofs.lemmas.List.{length-map}
-use Rattle.nq_logic.specs.Terms.{Name, Term, IsAmong, Substitution}
+use Rattle.nq_logic.specs.Terms.{Name, Term, IsTerm, IsAmong, Substitution}
 use Rattle.nq_logic.specs.Histories.{History}
 use Rattle.nq_logic.specs.Ground.{symbols_of}
 use Rattle.nq_logic.specs.Laws.{InductionCase}
@@ -13,12 +13,13 @@ use Rattle.nq_bank.specs.declared.node.TermId.{TermId}
 use Rattle.nq_bank.specs.Content.{Content, Grows, Stands, IsIdOf, text_at, term_at, terms_at}
 use Rattle.nq_bank.specs.Parts.{parts_of}
 use Rattle.nq_bank.specs.Shells.{texts_at}
-use Rattle.nq_bank.proofs.Growth.{term_at-grown}
+use Rattle.nq_bank.proofs.Growth.{term_at-grown, terms_at-grown}
 use Rattle.nq_bank.proofs.NodesLemmas.{All-head, All-tail}
 use Rattle.nq_calls.specs.declared.calls.Site.{Site}
 use Rattle.nq_calls.specs.Calls.{site_at, sites_at}
 use Rattle.nq_history.specs.declared.entry.Entry.{Entry}
-use Rattle.nq_history.specs.Events.{events_at}
+use Rattle.nq_history.specs.Events.{HistoryStands, events_at}
+use Rattle.nq_history.proofs.HistoryLemmas.{events_at-grown}
 use Rattle.nq_kernel.specs.Over.{TermIsIn}
 use Rattle.nq_kernel.specs.Ready.{IsReady}
 use Rattle.nq_events.specs.Inductions.{opened_by, arguments_of, suggests_by}
@@ -31,9 +32,9 @@ use Rattle.nq_tracer.specs.Falls.{DefinitionsFall}
 use Rattle.nq_tracer.specs.Cases.{case_by, case_of, CallsGiveCases, IsSuggesting}
 use Rattle.nq_tracer.specs.declared.drafts.Draft.{Draft}
 use Rattle.nq_tracer.specs.declared.nexts.Nexts.{Nexts}
-use Rattle.nq_tracer.specs.Leads.{draft_at, IsInduction, IsPartIn, IsSuggestedBy, LeadsBy, LeadsFrom}
+use Rattle.nq_tracer.specs.Leads.{draft_at, IsInduction, IsInductionBy, IsInductionOf, IsPartIn, IsSuggestedBy, LeadsBy, LeadsFrom}
 use Rattle.nq_tracer.proofs.PartLemmas.{part_over, arguments_over}
-use Rattle.nq_tracer.proofs.LeadLemmas.{induction_by}
+use Rattle.nq_tracer.proofs.LeadLemmas.{induction_by, induction_in}
 
 -- the first of the calls that were found
 first_among : (bank : Content) (sites : List Site) (d : Site) → 1 ≤ length sites → IsAmong (site_at bank (get_or sites 0 d)) (sites_at bank sites)
@@ -75,12 +76,21 @@ all_at P [] literal m k = absurd m
 all_at P (x ∷ ids) literal (inl e) k = subst P (sym e) (All-head P x ids k)
 all_at P (x ∷ ids) literal (inr m) k = all_at P ids literal m (All-tail P x ids k)
 
+-- a call that stands in the goal is over the functions of the history, as its literals are
+pub call_in_goal : (bank : Content) (history : List Entry) (goal : List TermId) (t : TermId) → All (TermIsIn bank history) goal → IsPartIn bank goal t → IsTerm (symbols_of (events_at bank history)) (term_at bank t)
+call_in_goal bank history goal t over part = part_over (symbols_of (events_at bank history)) (term_at bank part.literal) (term_at bank t) (all_at (TermIsIn bank history) goal part.literal part.among over).over part.part.among
+
+-- an induction of such a call is one of the goal
+pub induction_of_part : (bank new : Content) (history : List Entry) (goal : List TermId) (t : TermId) (n : Nexts) → IsPartIn bank goal t → IsInductionOf (events_at bank history) (term_at bank t) (terms_at bank goal) (term_at new n.base) (term_at new n.step)
+    → IsInduction (events_at bank history) (terms_at bank goal) (term_at new n.base) (term_at new n.step)
+induction_of_part bank new history goal t n part i = induction_in (events_at bank history) (term_at bank t) (terms_at bank goal) (term_at new n.base) (term_at new n.step) (part_in_all bank goal part.literal (term_at bank t) part.among part.part.among) i
+
 -- so they are those of an induction that the call suggests
 pub leads_on : DefinitionsFall → CallsGiveCases → (bank new : Content) (history : List Entry) (goal : List TermId) (p t : TermId) (d : Definition) (measure : TermId) (arguments : List TermId) (n : Nexts) (o : Option Definition) → IsReady (events_at bank history)
-    → All (TermIsIn bank history) goal → IsIdOf bank p (claim_of (terms_at bank goal)) → IsPartIn bank goal t → option_map (definition_at bank) o ≡ opened_by (events_at bank history) (term_at bank t) → o ≡ Some d → d.measure ≡ Some measure → terms_at bank arguments ≡ parts_of (term_at bank t)
+    → IsTerm (symbols_of (events_at bank history)) (term_at bank t) → IsIdOf bank p (claim_of (terms_at bank goal)) → option_map (definition_at bank) o ≡ opened_by (events_at bank history) (term_at bank t) → o ≡ Some d → d.measure ≡ Some measure → terms_at bank arguments ≡ parts_of (term_at bank t)
     → IsSuggestedBy bank d measure t arguments → LeadsBy (definition_at bank d) (term_at bank measure) (terms_at bank arguments) (term_at bank p) new n
-    → IsInduction (events_at bank history) (terms_at bank goal) (term_at new n.base) (term_at new n.step)
-leads_on fall give bank new history goal p t d measure arguments n o ready over claim part opened found measured parts suggested leads =
+    → IsInductionOf (events_at bank history) (term_at bank t) (terms_at bank goal) (term_at new n.base) (term_at new n.step)
+leads_on fall give bank new history goal p t d measure arguments n o ready over claim opened found measured parts suggested leads =
     let h : History = events_at bank history in
     let whole : Term = term_at bank t in
     let own : terms_at bank arguments ≡ arguments_of whole = parts ∙ sym (arguments_call whole suggested.call) in
@@ -90,9 +100,9 @@ leads_on fall give bank new history goal p t d measure arguments n o ready over 
       measure = ap (option_map (term_at bank)) measured;
       suggests = subst (λ (ts : List Term). suggests_by (definition_at bank d) (Some (term_at bank measure)) ts ≡ true) own suggested.suggests;
       count = ap length (sym own) ∙ length-map arguments (term_at bank) ∙ suggested.count ∙ sym (length-map d.formals.now (text_at bank));
-      over = arguments_over (symbols_of h) whole (part_over (symbols_of h) (term_at bank part.literal) whole (all_at (TermIsIn bank history) goal part.literal part.among over).over part.part.among);
+      over = arguments_over (symbols_of h) whole over;
     } in
-    induction_by fall give h (definition_at bank d) (term_at bank measure) whole (terms_at bank goal) ready suggesting suggested.usable.kept (part_in_all bank goal part.literal whole part.among part.part.among) there.call there.among (term_at bank p)
+    induction_by fall give h (definition_at bank d) (term_at bank measure) whole (terms_at bank goal) ready suggesting suggested.usable.kept there.call there.among (term_at bank p)
     (term_at new n.base) (term_at new n.step) claim.denotes there.base there.step
 
 -- an element that is there does not depend on what stands for none
@@ -106,9 +116,28 @@ site_other sites i site d below is = is ∙ same sites i below
 
 -- the same of what may be found
 pub leads_on_found : DefinitionsFall → CallsGiveCases → (bank new : Content) (history : List Entry) (goal : List TermId) (p t : TermId) (d : Definition) (measure : TermId) (arguments : List TermId) (found : Option Nexts) (o : Option Definition) → IsReady (events_at bank history)
-    → All (TermIsIn bank history) goal → IsIdOf bank p (claim_of (terms_at bank goal)) → IsPartIn bank goal t → option_map (definition_at bank) o ≡ opened_by (events_at bank history) (term_at bank t) → o ≡ Some d → d.measure ≡ Some measure → terms_at bank arguments ≡ parts_of (term_at bank t)
+    → IsTerm (symbols_of (events_at bank history)) (term_at bank t) → IsIdOf bank p (claim_of (terms_at bank goal)) → option_map (definition_at bank) o ≡ opened_by (events_at bank history) (term_at bank t) → o ≡ Some d → d.measure ≡ Some measure → terms_at bank arguments ≡ parts_of (term_at bank t)
     → IsSuggestedBy bank d measure t arguments → IfSome found (LeadsBy (definition_at bank d) (term_at bank measure) (terms_at bank arguments) (term_at bank p) new)
+    → IfSome found (λ n. IsInductionOf (events_at bank history) (term_at bank t) (terms_at bank goal) (term_at new n.base) (term_at new n.step))
+leads_on_found fall give bank new history goal p t d measure arguments None o ready over claim opened found measured parts suggested leads = tt
+leads_on_found fall give bank new history goal p t d measure arguments (Some n) o ready over claim opened found measured parts suggested leads =
+    leads_on fall give bank new history goal p t d measure arguments n o ready over claim opened found measured parts suggested leads
+
+-- and of one of a call in the goal
+pub found_of_part : (bank new : Content) (history : List Entry) (goal : List TermId) (t : TermId) (found : Option Nexts) → IsPartIn bank goal t → IfSome found (λ n. IsInductionOf (events_at bank history) (term_at bank t) (terms_at bank goal) (term_at new n.base) (term_at new n.step))
     → IfSome found (λ n. IsInduction (events_at bank history) (terms_at bank goal) (term_at new n.base) (term_at new n.step))
-leads_on_found fall give bank new history goal p t d measure arguments None o ready over claim part opened found measured parts suggested leads = tt
-leads_on_found fall give bank new history goal p t d measure arguments (Some n) o ready over claim part opened found measured parts suggested leads =
-    leads_on fall give bank new history goal p t d measure arguments n o ready over claim part opened found measured parts suggested leads
+found_of_part bank new history goal t None part leads = tt
+found_of_part bank new history goal t (Some n) part leads = induction_of_part bank new history goal t n part leads
+
+-- and of one of the call alone, which stood before the bank grew
+pub found_alone : (old middle new : Content) (history : List Entry) (goal : List TermId) (t : TermId) (found : Option Nexts) → Grows old middle → HistoryStands old history → All (Stands old) goal → Stands old t
+    → IfSome found (λ n. IsInductionOf (events_at middle history) (term_at middle t) (terms_at middle goal) (term_at new n.base) (term_at new n.step))
+    → IfSome found (λ n. IsInductionBy (events_at old history) (term_at old t ∷ []) (terms_at old goal) (term_at new n.base) (term_at new n.step))
+found_alone old middle new history goal t None grows stands stand call leads = tt
+found_alone old middle new history goal t (Some n) grows stands stand call leads =
+    let there : IsInductionBy (events_at middle history) (term_at middle t ∷ []) (terms_at middle goal) (term_at new n.base) (term_at new n.step) = leads.by (term_at middle t ∷ []) (inl refl) in
+    let base : Term = term_at new n.base in
+    let step : Term = term_at new n.step in
+    subst (λ (es : History). IsInductionBy es (term_at old t ∷ []) (terms_at old goal) base step) (events_at-grown old middle grows history stands.entries)
+    (subst (λ (u : Term). IsInductionBy (events_at middle history) (u ∷ []) (terms_at old goal) base step) (term_at-grown old middle t grows call)
+    (subst (λ (ts : List Term). IsInductionBy (events_at middle history) (term_at middle t ∷ []) ts base step) (terms_at-grown old middle goal grows stand) there))

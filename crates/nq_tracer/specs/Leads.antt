@@ -15,7 +15,7 @@ use Rattle.nq_logic.specs.Histories as logic
 use Rattle.nq_logic.specs.Names.{has_name}
 use Rattle.nq_logic.specs.Numerals.{number_of}
 use Rattle.nq_logic.specs.Admissible.{Call, calls_of}
-use Rattle.nq_events.specs.Inductions.{suggests_by}
+use Rattle.nq_events.specs.Inductions.{suggests_by, suggests_induction}
 use Rattle.nq_event.specs.declared.definitions.Definition.{Definition}
 use Rattle.nq_event.specs.Definitions.{definition_at}
 use Rattle.nq_calls.specs.Mentions.{IsApart}
@@ -43,11 +43,20 @@ pub record IsPartIn (bank : Content) (goal : List TermId) (t : TermId) : Type 0 
   pub among : IsAmong literal goal
   pub part : IsPartAt bank literal t
 
--- these two are the goals of an induction on the goal by a scheme that its calls suggest
-pub record IsInduction (h : History) (goal : List Term) (base step : Term) : Type 0 where
+-- these two are the goals of an induction on the goal by a scheme that these calls suggest
+pub record IsInductionBy (h : History) (calls goal : List Term) (base step : Term) : Type 0 where
   pub scheme : Scheme
-  pub suggested : IsScheme h (suggesting_in h goal) scheme
+  pub suggested : IsScheme h calls scheme
   pub next : (base ∷ []) ∷ (step ∷ []) ∷ [] ≡ goals_of_scheme goal scheme
+
+-- the same by a scheme that the calls of the goal suggest
+abbrev pub IsInduction : History → List Term → Term → Term → Type 0
+IsInduction h goal base step = IsInductionBy h (suggesting_in h goal) goal base step
+
+-- the call suggests an induction, and these two are the goals of one by any calls among which it is
+pub record IsInductionOf (h : History) (call : Term) (goal : List Term) (base step : Term) : Type 0 where
+  pub suggests : suggests_induction h call ≡ true
+  pub by : (calls : List Term) → IsAmong call calls → IsInductionBy h calls goal base step
 
 pub record NextsStand (bank : Content) (n : Nexts) : Type 0 where
   pub base : Stands bank n.base

@@ -1,5 +1,7 @@
 //! An induction from a goal, where only an induction leads on.
 ghost use Rattle.std.specs.Prelude.{◌≡◌, ◌∷◌, [], All, IfOk, IfSome, true};
+ghost use Rattle.nq_logic.specs.Terms.{IsTerm};
+ghost use Rattle.nq_logic.specs.Ground.{symbols_of};
 ghost use Rattle.nq_bank.specs.Content.{Content, Grows, IsIdOf, Stands, term_at, terms_at};
 ghost use Rattle.nq_history.specs.Events.{HistoryStands, events_at};
 ghost use Rattle.nq_history.specs.Hints.{HintsStand};
@@ -9,7 +11,7 @@ ghost use Rattle.nq_event.specs.EventsAt.{hints_at};
 ghost use Rattle.nq_goals.specs.Inducting.{claim_of};
 ghost use Rattle.nq_goals.specs.Moves.{IsMove};
 ghost use Rattle.nq_goals.specs.declared.kinds.MoveKind.TheVariants.{Ind};
-ghost use Rattle.nq_tracer.specs.Leads.{IsDue, IsFree, IsInduction, NextsStand};
+ghost use Rattle.nq_tracer.specs.Leads.{IsDue, IsFree, IsInduction, IsInductionBy, IsInductionOf, NextsStand};
 
 use crate::claims::claim_of;
 use crate::finding::found_among;
@@ -48,7 +50,31 @@ fn is_due(
     is_left_to_induction(bank, history, hints, goal)
 }
 
-/// The goals of an induction on the claim of a goal.
+/// The goals of an induction on the claim of a goal that a call suggests.
+fn induct_claim_by(
+    bank: &mut Bank,
+    history: &History,
+    goal: &[TermId],
+    p: TermId,
+    t: TermId,
+) -> Result<Option<Nexts>, AllocError>
+    requires history { HistoryStands bank.old history.now }
+    requires ready { IsReady (events_at bank.old history.now) }
+    requires claim { IsIdOf bank.old p (claim_of (terms_at bank.old goal.now)) }
+    requires call { Stands bank.old t }
+    requires over { IsTerm (symbols_of (events_at bank.old history.now)) (term_at bank.old t) }
+    ensures leads { IfOk result (λ found. IfSome found (λ n. IsInductionOf (events_at bank.old history.now) (term_at bank.old t) (terms_at bank.old goal.now) (term_at bank.new n.base) (term_at bank.new n.step))) }
+    ensures stand { IfOk result (λ found. IfSome found (NextsStand bank.new)) }
+    ensures grows { Grows bank.old bank.new }
+{
+    match lead_by(bank, history, goal, p, t) {
+        Ok(nexts) => Ok(nexts),
+        Err(BankFault::Deep) => Ok(None),
+        Err(_) => Err(AllocError),
+    }
+}
+
+/// The goals of an induction on the claim of a goal that a call in the goal suggests.
 fn induct_claim(
     bank: &mut Bank,
     history: &History,
@@ -69,11 +95,7 @@ fn induct_claim(
     }
     let found = found_among(bank, history, goal)?;
     match found {
-        Some(t) => match lead_by(bank, history, goal, p, t) {
-            Ok(nexts) => Ok(nexts),
-            Err(BankFault::Deep) => Ok(None),
-            Err(_) => Err(AllocError),
-        },
+        Some(t) => induct_claim_by(bank, history, goal, p, t),
         None => Ok(None),
     }
 }
@@ -97,6 +119,32 @@ pub fn induct_on(
     }
     match claim_of(bank, goal) {
         Ok(p) => induct_claim(bank, history, goal, p),
+        Err(BankFault::Deep) => Ok(None),
+        Err(_) => Err(AllocError),
+    }
+}
+
+/// The goals of an induction on a goal by one case that this call suggests, wherever it stands; there may be none.
+pub fn induct_by(
+    bank: &mut Bank,
+    history: &History,
+    goal: &[TermId],
+    call: TermId,
+) -> Result<Option<Nexts>, AllocError>
+    requires history { HistoryStands bank.old history.now }
+    requires ready { IsReady (events_at bank.old history.now) }
+    requires goal { All (Stands bank.old) goal.now }
+    requires call { Stands bank.old call }
+    requires over { TermIsIn bank.old history.now call }
+    ensures leads { IfOk result (λ found. IfSome found (λ n. IsInductionBy (events_at bank.old history.now) (term_at bank.old call ∷ []) (terms_at bank.old goal.now) (term_at bank.new n.base) (term_at bank.new n.step))) }
+    ensures stand { IfOk result (λ found. IfSome found (NextsStand bank.new)) }
+    ensures grows { Grows bank.old bank.new }
+{
+    if goal.is_empty() {
+        return Ok(None);
+    }
+    match claim_of(bank, goal) {
+        Ok(p) => induct_claim_by(bank, history, goal, p, call),
         Err(BankFault::Deep) => Ok(None),
         Err(_) => Err(AllocError),
     }

@@ -1,12 +1,13 @@
 //! The induction that a call in a goal suggests.
 ghost use Rattle.std.specs.Prelude.{◌≡◌, ◌<◌, All, get_or, length, IfOk, IfSome, None, Some, true};
+ghost use Rattle.nq_logic.specs.Terms.{IsTerm};
+ghost use Rattle.nq_logic.specs.Ground.{symbols_of};
 ghost use Rattle.nq_logic.specs.Histories as logic;
 ghost use Rattle.nq_logic.specs.Numerals.{number_of};
 ghost use Rattle.nq_bank.specs.Content.{Grows, IsIdOf, IsNamed, Stands, term_at, terms_at, text_at};
 ghost use Rattle.nq_bank.specs.Parts.{parts_of};
 ghost use Rattle.nq_bank.specs.Shells.{texts_at};
 ghost use Rattle.nq_history.specs.Events.{HistoryStands, events_at};
-ghost use Rattle.nq_kernel.specs.Over.{TermIsIn};
 ghost use Rattle.nq_kernel.specs.Ready.{IsReady};
 ghost use Rattle.nq_logic.specs.Admissible.{calls_of, matched};
 ghost use Rattle.nq_clause.specs.Substitution.{PairStands, substitution_at};
@@ -15,7 +16,7 @@ ghost use Rattle.nq_calls.specs.Mentions.{IsApart};
 ghost use Rattle.nq_events.specs.Inductions.{suggests_by};
 ghost use Rattle.nq_event.specs.Definitions.{DefinitionStands, definition_at};
 ghost use Rattle.nq_goals.specs.Inducting.{claim_of};
-ghost use Rattle.nq_tracer.specs.Leads.{IsInduction, IsPartIn, IsSuggestedBy, IsUsable, LeadsBy, LeadsFrom, NextsStand};
+ghost use Rattle.nq_tracer.specs.Leads.{IsInductionOf, IsSuggestedBy, IsUsable, LeadsBy, LeadsFrom, NextsStand};
 
 use crate::drafts::{draft_of, pairs_of};
 use crate::laws::{calls_give_cases, definitions_fall};
@@ -190,7 +191,7 @@ fn is_call(bank: &Bank, t: TermId) -> bool
     }
 }
 
-/// The goals of the induction on the claim of a goal that a call in the goal suggests.
+/// The goals of the induction on the claim of a goal that a call suggests.
 pub fn lead_by(
     bank: &mut Bank,
     history: &History,
@@ -200,10 +201,10 @@ pub fn lead_by(
 ) -> Result<Option<Nexts>, BankFault>
     requires history { HistoryStands bank.old history.now }
     requires ready { IsReady (events_at bank.old history.now) }
-    requires over { All (TermIsIn bank.old history.now) goal.now }
     requires claim { IsIdOf bank.old p (claim_of (terms_at bank.old goal.now)) }
-    requires part { IsPartIn bank.old goal.now t }
-    ensures leads { IfOk result (λ found. IfSome found (λ n. IsInduction (events_at bank.old history.now) (terms_at bank.old goal.now) (term_at bank.new n.base) (term_at bank.new n.step))) }
+    requires call { Stands bank.old t }
+    requires over { IsTerm (symbols_of (events_at bank.old history.now)) (term_at bank.old t) }
+    ensures leads { IfOk result (λ found. IfSome found (λ n. IsInductionOf (events_at bank.old history.now) (term_at bank.old t) (terms_at bank.old goal.now) (term_at bank.new n.base) (term_at bank.new n.step))) }
     ensures stand { IfOk result (λ found. IfSome found (NextsStand bank.new)) }
     ensures grows { Grows bank.old bank.new }
 {

@@ -22,6 +22,6 @@ mod induction;
 // laws of schemes
 mod laws;
 
-pub use induction::{induct_on, induction_from};
+pub use induction::{induct_by, induct_on, induction_from};
 pub use laws::{calls_give_cases, definitions_fall};
 pub use nexts::Nexts;

@@ -12,7 +12,8 @@ use Rattle.nq_check.specs.declared.verdict.Checked.{Checked}
 use Rattle.nq_check.specs.declared.verdict.Checked.TheVariants as checked
 use Rattle.nq_check.specs.declared.verdict.CheckFault.{CheckFault}
 use Rattle.nq_check.specs.declared.verdict.CheckFault.TheVariants as fault
-use Rattle.nq_run.specs.Outcome.{Finished, Held, IsRightLog}
+use Rattle.nq_block.specs.OpenLogs.{IsRightLog}
+use Rattle.nq_run.specs.Outcome.{Finished, Held}
 use Rattle.nqthm.specs.Commands.{HasChecked, check_status}
 use Rattle.nqthm.specs.Statuses.{IsVerdictOf}
 use Rattle.nqthm.specs.Accepted.{IsAccepted, WrittenLogs}

@@ -59,8 +59,9 @@ const NO_MEMORY: u8 = 6;
 /// - 7: the file has more than 2^25 bytes; a log would reach 2^62 bytes, or has more.
 ///
 /// In each outcome of `run` and `log` a lemma reported as proved is derivable in the history before it, and the log that was
-/// written to its end is right, so that `check` accepts it ([`written_logs`]). In each outcome of `check` a claim that was
-/// written holds in the history of the claims before it.
+/// written to its end is right, so that `check` accepts it ([`written_logs`]); in each of its blocks a line that the closing
+/// line does not cite is dropped directly after its last use. In each outcome of `check` a claim that was written holds in
+/// the history of the claims before it.
 #[tactic(auto, using(crate::proofs::Endings::untouched_checked))]
 pub fn nqthm<S: Source, O: Sink, E: Sink>(
     alloc: Global,

@@ -3,7 +3,7 @@ use Rattle.std.specs.Prelude.{IfSome}
 use Rattle.nq_kernel.specs.Growing.{LineStands}
 use Rattle.nq_kernel.proofs.GrowingLemmas.{WorkGrows-refl, WorkGrows-trans}
 use Rattle.nq_lines.specs.Lines.{LineHasOnly}
-use Rattle.nq_arithmetic.proofs.Lemmas.{all_grown, goal_same, found_of}
+use Rattle.nq_arithmetic.proofs.Lemmas.{all_grown, goal_same, found_of, instances_grown}
 use Rattle.nq_arithmetic.proofs.arithmetic.arithmetic_line.Goals as goal
 
 pub returns-then-hints-clause-grows : goal.returns-then-hints-clause-grows
@@ -17,6 +17,9 @@ returns-in-Some-clause-line c = subst (λ ts. IfSome c.checked.result (λ n. Lin
 
 pub by_facts-requires-clause-goal : goal.by_facts-requires-clause-goal
 by_facts-requires-clause-goal c = all_grown c.args.history.now c.args.work.now c.refuted.new.work c.requires.stands c.refuted.ensures.grows c.args.goal.now c.requires.goal
+
+pub by_facts-requires-clause-instances : goal.by_facts-requires-clause-instances
+by_facts-requires-clause-instances c = instances_grown c.args.history.now c.args.work.now c.refuted.new.work c.requires.stands c.refuted.ensures.grows c.args.told.now c.requires.told
 
 pub returns-in-None-clause-line : goal.returns-in-None-clause-line
 returns-in-None-clause-line c = found_of c.by_facts.result c.by_facts.new.work _ _ (goal_same c.args.history.now c.args.work.now c.refuted.new.work c.requires.stands c.refuted.ensures.grows c.args.goal.now c.requires.goal) c.by_facts.ensures.line

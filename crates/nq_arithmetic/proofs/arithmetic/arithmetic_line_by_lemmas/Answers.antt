@@ -1,6 +1,6 @@
 use Rattle.nq_kernel.proofs.GrowingLemmas.{WorkGrows-refl, WorkGrows-trans}
 use Rattle.nq_lines.proofs.FactLemmas.{own_terms_grown}
-use Rattle.nq_arithmetic.proofs.Lemmas.{all_grown, goal_same, found_of}
+use Rattle.nq_arithmetic.proofs.Lemmas.{all_grown, goal_same, found_of, instances_grown}
 use Rattle.nq_arithmetic.proofs.arithmetic.arithmetic_line_by_lemmas.Goals as goal
 
 pub returns-then-hints-clause-grows : goal.returns-then-hints-clause-grows
@@ -11,6 +11,9 @@ by_lemmas-requires-clause-goal c = all_grown c.args.history.now c.args.work.now 
 
 pub by_lemmas-requires-clause-ready : goal.by_lemmas-requires-clause-ready
 by_lemmas-requires-clause-ready c = own_terms_grown c.args.history.now c.args.work.now c.arithmetic_line.new.work c.arithmetic_line.ensures.grows c.requires.stands c.requires.ready
+
+pub by_lemmas-requires-clause-told : goal.by_lemmas-requires-clause-told
+by_lemmas-requires-clause-told c = instances_grown c.args.history.now c.args.work.now c.arithmetic_line.new.work c.requires.stands c.arithmetic_line.ensures.grows c.args.told.now c.requires.told
 
 pub returns-in-None-clause-line : goal.returns-in-None-clause-line
 returns-in-None-clause-line c = found_of c.by_lemmas.result c.by_lemmas.new.work _ _ (goal_same c.args.history.now c.args.work.now c.arithmetic_line.new.work c.requires.stands c.arithmetic_line.ensures.grows c.args.goal.now c.requires.goal) c.by_lemmas.ensures.line

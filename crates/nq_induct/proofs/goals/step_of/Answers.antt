@@ -49,7 +49,7 @@ returns-clause-literals c =
     ap₂ (λ (p : Term) (ss : List Substitution). denied p ss) (same_term_grown h w0 w1 c.args.claim g01 c.requires.claim ∙ c.requires.is)
     (ap (substitutions_at w1.bank) c.as_slice.ensures.value ∙ same_substitutions h w0 w1 c.requires.stands g01 steps c.requires.steps) in
     let test : term_at w2.bank c.in_ok-denied.denied ≡ not_term (term_at w0.bank c.args.case.now.test) = same_term_grown h w1 w2 c.in_ok-denied.denied g12 c.in_ok-denied.ensures.over ∙ c.in_ok-denied.ensures.denied.denotes in
-    for_ok c.whole_of.result (λ (v : Vec TermId Global). v.items ≡ c.in_ok-denied.denied ∷ (c.as_slice-2.result.now ++ c.args.goal.now)) (λ (v : Vec TermId Global). terms_at w2.bank v.items ≡ step_goal w0.bank (terms_at w0.bank c.args.goal.now) c.args.case.now) (λ v e.
+    for_ok c.whole_of.result (λ (v : Vec TermId Global). v.items ≡ c.in_ok-denied.denied ∷ (c.args.goal.now ++ c.as_slice-2.result.now)) (λ (v : Vec TermId Global). terms_at w2.bank v.items ≡ step_goal w0.bank (terms_at w0.bank c.args.goal.now) c.args.case.now) (λ v e.
     whole_told w2.bank v.items c.in_ok-denied.denied c.as_slice-2.result.now c.in_ok-hypotheses.hypotheses.items c.args.goal.now _ _ _ e c.as_slice-2.ensures.value test hyps (same_terms h w0 w2 c.requires.stands g02 c.args.goal.now c.requires.goal)) c.whole_of.ensures.literals
 
 pub returns-clause-over : goal.returns-clause-over
@@ -61,5 +61,5 @@ returns-clause-over c =
     let g01 : WorkGrows h w0 w1 = c.deny.ensures.grows in
     let g12 : WorkGrows h w1 w2 = c.hypotheses_of.ensures.grows in
     let g02 : WorkGrows h w0 w2 = WorkGrows-trans h w0 w1 w2 g01 g12 in
-    for_ok c.whole_of.result (λ (v : Vec TermId Global). v.items ≡ c.in_ok-denied.denied ∷ (c.as_slice-2.result.now ++ c.args.goal.now)) (λ (v : Vec TermId Global). AreTermsIn h w2 v.items) (λ v e.
+    for_ok c.whole_of.result (λ (v : Vec TermId Global). v.items ≡ c.in_ok-denied.denied ∷ (c.args.goal.now ++ c.as_slice-2.result.now)) (λ (v : Vec TermId Global). AreTermsIn h w2 v.items) (λ v e.
     whole_over h w2 v.items c.in_ok-denied.denied c.as_slice-2.result.now c.in_ok-hypotheses.hypotheses.items c.args.goal.now e c.as_slice-2.ensures.value (term_grown h w1 w2 c.in_ok-denied.denied g01.stands g12 c.in_ok-denied.ensures.over) c.in_ok-hypotheses.ensures.over (terms_in_grown h w0 w2 c.requires.stands g02 c.args.goal.now c.requires.goal)) c.whole_of.ensures.literals

@@ -29,6 +29,18 @@ pub returns-in-FixIsNoMore : goal.returns-in-FixIsNoMore
 unfolding law_line law_clause symbols_of number_of tree_depth
 returns-in-FixIsNoMore c = refl
 
+pub returns-in-OneLessIsNoMore : goal.returns-in-OneLessIsNoMore
+unfolding law_line law_clause symbols_of number_of tree_depth
+returns-in-OneLessIsNoMore c = refl
+
+pub returns-in-OneLessIsEnough : goal.returns-in-OneLessIsEnough
+unfolding law_line law_clause symbols_of number_of tree_depth
+returns-in-OneLessIsEnough c = refl
+
+pub returns-in-DifferenceIsNoMore : goal.returns-in-DifferenceIsNoMore
+unfolding law_line law_clause symbols_of number_of tree_depth
+returns-in-DifferenceIsNoMore c = refl
+
 pub returns-in-DifferenceIsEnough : goal.returns-in-DifferenceIsEnough
 unfolding law_line law_clause symbols_of number_of tree_depth
 returns-in-DifferenceIsEnough c = refl

@@ -23,7 +23,7 @@ loop-form-init g c =
     let none : c.zero.result.forms ≡ 0 = ap (λ (t : Totals). t.forms) c.zero.ensures in (
       (
         end,
-        so_far-start _ _ _ (ap (λ (r : Reading). r.held.bytes) made) (ap (λ (r : Reading). r.held.at) made) refl,
+        so_far-start _ _ _ (ap (λ (r : Reading). r.held.bytes) made) (ap (λ (r : Reading). r.held.at) made) (ap (λ (r : Reading). r.held.told) made) refl,
         Ran-start c.args.limit c.args.logging _ _ _ _ _ c.zero.ensures c.in_ok-session.ensures.none refl c.in_ok-begin.ensures.ok c.in_ok-begin.ensures.count,
       ),
       ap (λ (r : Reading). r.live) made,

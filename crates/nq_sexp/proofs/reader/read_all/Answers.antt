@@ -15,7 +15,7 @@ loop-forms-init g c =
     let left = g.S.Source.left c.args.source.now in
     let made = c.new-reader.ensures in (
       subst (λ (z : List Sexp). SoFar (g.S.Source.left c.args.source.now) c.new-reader.result.held (g.S.Source.left c.args.source.now) (trees z end)) (sym c.new-forms.ensures.items)
-          (so_far-start _ _ _ (ap (λ (r : Reading). r.held.bytes) made) (ap (λ (r : Reading). r.held.at) made) refl),
+          (so_far-start _ _ _ (ap (λ (r : Reading). r.held.bytes) made) (ap (λ (r : Reading). r.held.at) made) (ap (λ (r : Reading). r.held.told) made) refl),
       ap (λ (r : Reading). r.live) made,
     )
 

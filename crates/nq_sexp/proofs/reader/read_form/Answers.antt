@@ -65,7 +65,7 @@ returns-in-Some-take_whole-2-clause-form g c =
     let m = mode_of c.in_ok-mode.mode in
     let kept = settled-kept left _ _ _ _ _ k _ _ settled c.in_default-take_whole.ensures.none in
     let went = ap (λ (z : ℕ). stepped z k m c.in-Some.byte) (sym c.at.ensures.at) ∙ c.in_ok-mode-2.ensures in
-    let done = settled-stepped left _ _ c.advance.new.self _ _ k _ m _ c.in-Some.byte kept.0 kept.1 went (c.advance.ensures.byte c.in-Some.byte) c.advance.ensures.at in
+    let done = settled-stepped left _ _ c.advance.new.self _ _ k _ m _ c.in-Some.byte kept.0 kept.1 went (c.advance.ensures.byte c.in-Some.byte) c.advance.ensures.at c.advance.ensures.told in
     let some = c.in-Some-take_whole-2.ensures.some in
     stepped-found left _ _ _ _ _ _ _ (some.1).0 done some.0 (some.1).1
 
@@ -78,7 +78,7 @@ returns-in_err-next-2-clause-fault g c =
     let m = mode_of c.in_ok-mode.mode in
     let kept = settled-kept left _ _ _ _ _ k _ _ settled c.in_default-take_whole.ensures.none in
     let went = ap (λ (z : ℕ). stepped z k m c.in-Some.byte) (sym c.at.ensures.at) ∙ c.in_ok-mode-2.ensures in
-    let done = settled-stepped left _ _ c.advance.new.self _ _ k _ m _ c.in-Some.byte kept.0 kept.1 went (c.advance.ensures.byte c.in-Some.byte) c.advance.ensures.at in
+    let done = settled-stepped left _ _ c.advance.new.self _ _ k _ m _ c.in-Some.byte kept.0 kept.1 went (c.advance.ensures.byte c.in-Some.byte) c.advance.ensures.at c.advance.ensures.told in
     let again = stepped-kept left _ _ _ _ _ (stack_of c.take_whole-in-Some.new.self) _ done c.in_default-take_whole-2.ensures.none in
     let p = err_from_is_err_and c.from_residual-in_err-next-2.result c.from_residual-in_err-next-2.ensures.1 in
     rw (p.1, p.2) (stepped-met left _ _ _ _ _ _ _ _ _ again.0 again.1 c.in_err-next-2.ensures.taken c.in_err-next-2.ensures.fault)
@@ -92,7 +92,7 @@ loop-next-preserved g c =
     let m = mode_of c.in_ok-mode.mode in
     let kept = settled-kept left _ _ _ _ _ k _ _ settled c.in_default-take_whole.ensures.none in
     let went = ap (λ (z : ℕ). stepped z k m c.in-Some.byte) (sym c.at.ensures.at) ∙ c.in_ok-mode-2.ensures in
-    let done = settled-stepped left _ _ c.advance.new.self _ _ k _ m _ c.in-Some.byte kept.0 kept.1 went (c.advance.ensures.byte c.in-Some.byte) c.advance.ensures.at in
+    let done = settled-stepped left _ _ c.advance.new.self _ _ k _ m _ c.in-Some.byte kept.0 kept.1 went (c.advance.ensures.byte c.in-Some.byte) c.advance.ensures.at c.advance.ensures.told in
     let again = stepped-kept left _ _ _ _ _ (stack_of c.take_whole-in-Some.new.self) _ done c.in_default-take_whole-2.ensures.none in
     (stepped-parsing left _ _ _ _ _ _ _ _ _ again.0 again.1 c.in_ok-next-2.ensures.taken c.in_ok-next-2.ensures.next, omega (arith, c.loop-next.invariant.1, c.in_ok-next-2.ensures.later))
 

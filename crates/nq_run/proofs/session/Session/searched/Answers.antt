@@ -44,15 +44,15 @@ untaken-requires-in-OutOfSteps-clause-stands g c =
     let same = same_session old c.in_ok-judged.judged.bank c.in_ok-judged.ensures.bank in
     subst SessionStands (sym same) c.requires.stands
 
-pub trace_lemma-requires-clause-history : goal.trace_lemma-requires-clause-history
-trace_lemma-requires-clause-history g c =
+pub trace_proof-requires-clause-history : goal.trace_proof-requires-clause-history
+trace_proof-requires-clause-history g c =
     subst (λ (b : Content). HistoryStands b c.args.self.history) (sym c.in_ok-judged.ensures.bank) c.requires.stands.history
 
-pub trace_lemma-requires-clause-ready : goal.trace_lemma-requires-clause-ready
-trace_lemma-requires-clause-ready g c = subst (λ (b : Content). IsReady (events_at b c.args.self.history)) (sym c.in_ok-judged.ensures.bank) c.requires.stands.ready
+pub trace_proof-requires-clause-ready : goal.trace_proof-requires-clause-ready
+trace_proof-requires-clause-ready g c = subst (λ (b : Content). IsReady (events_at b c.args.self.history)) (sym c.in_ok-judged.ensures.bank) c.requires.stands.ready
 
-pub trace_lemma-requires-clause-over : goal.trace_lemma-requires-clause-over
-trace_lemma-requires-clause-over g c = subst (λ (b : Content). TermIsIn b c.args.self.history c.args.lemma.goal) (sym c.in_ok-judged.ensures.bank) c.requires.spelled.claimable.over
+pub trace_proof-requires-clause-over : goal.trace_proof-requires-clause-over
+trace_proof-requires-clause-over g c = subst (λ (b : Content). TermIsIn b c.args.self.history c.args.lemma.goal) (sym c.in_ok-judged.ensures.bank) c.requires.spelled.claimable.over
 
 pub proved-requires-clause-stands : goal.proved-requires-clause-stands
 proved-requires-clause-stands g c =

@@ -1,0 +1,16 @@
+pub mod Masks
+pub mod Cited
+pub mod SameTerms
+pub mod RuleMoves
+pub mod OtherMoves
+pub mod ClaimMoves
+pub mod LastUses
+pub mod DropLines
+pub mod KeptClaims
+pub mod Standing
+pub mod Feeds
+pub mod EndLemmas
+pub mod TextLemmas
+pub mod UseLemmas
+pub mod WholeLemmas
+pub mod SpelledDrops

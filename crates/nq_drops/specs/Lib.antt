@@ -1,0 +1,4 @@
+pub mod Uses
+pub mod Drops
+pub mod Laws
+pub mod Texts

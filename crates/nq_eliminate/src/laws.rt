@@ -1,0 +1,12 @@
+//! What the list of eliminations promises. Each function's contract is a law and its body is empty.
+ghost use Rattle.nq_eliminate.specs.Laws.{ListedAreCandidates, NoneIsNone};
+
+/// Where the list of eliminations is empty, the goal has no candidate of ELIM.
+pub fn none_is_none()
+    ensures { NoneIsNone }
+{}
+
+/// Each elimination of the list is a candidate.
+pub fn listed_are_candidates()
+    ensures { ListedAreCandidates }
+{}

@@ -1,0 +1,9 @@
+pub mod GeneralLemmas
+pub mod SideLemmas
+pub mod TwiceLemmas
+pub mod CandidateLemmas
+pub mod DistinctLemmas
+pub mod LeastLemmas
+pub mod LiteralLemmas
+pub mod MoveLemmas
+pub mod LawLemmas

@@ -1,0 +1,4 @@
+pub mod Literals
+pub mod Candidates
+pub mod Found
+pub mod Laws

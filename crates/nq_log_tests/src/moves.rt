@@ -1,0 +1,203 @@
+//! The moves: goals that have a candidate of a kind, and goals that have none.
+ghost use Rattle.std.specs.Prelude.{◌≡◌, All, true};
+ghost use Rattle.nq_history.specs.Events.{HistoryStands};
+ghost use Rattle.nq_kernel.specs.Growing.{WorkStands};
+ghost use Rattle.nq_lines.specs.Lines.{IsTermIn};
+
+use crate::axioms::history_with;
+use crate::goals::{is_in, stands, term};
+use nq_bank::{Bank, TermId};
+use nq_generalize::generalize_move;
+use nq_history::{Hints, History};
+use nq_kernel::{Log, MoveKind, Stop, Work};
+use nq_moves::{Moved, fertilize_move, irrelevant_move, substitute_move};
+use std::alloc::Global;
+use std::process::Abort;
+use std::test::Fail;
+
+fn hints_with(alloc: Global, no_generalize: bool) -> Hints {
+    Hints {
+        instances: Vec::new(alloc),
+        enable: Vec::new(alloc),
+        disable: Vec::new(alloc),
+        expand: Vec::new(alloc),
+        induct: None,
+        hands_off: Vec::new(alloc),
+        no_induct: false,
+        no_generalize,
+        no_arith: false,
+    }
+}
+
+/// Is a term one of the first ones, over the functions of the history?
+fn is_term_in(work: &Work, history: &History, made: u64, t: TermId) -> bool
+    requires { HistoryStands work.now.bank history.now }
+    ensures { result ≡ true → IsTermIn history.now work.now t }
+{
+    stands(&work.bank, t) && is_in(&work.bank, history, made, t)
+}
+
+/// Are these such terms?
+fn are_terms_in(work: &Work, history: &History, made: u64, terms: &[TermId]) -> bool
+    requires { HistoryStands work.now.bank history.now }
+    ensures { result ≡ true → All (IsTermIn history.now work.now) terms.now }
+{
+    terms.iter().all(|t| is_term_in(work, history, made, *t))
+}
+
+/// What the move of a kind finds in a goal, where there are no goals above it.
+fn moved(
+    work: &mut Work,
+    history: &History,
+    hints: &Hints,
+    kind: MoveKind,
+    goal: &[TermId],
+) -> Result<Option<Moved>, Stop>
+    requires stands { WorkStands history.now work.old }
+    requires goal { All (IsTermIn history.now work.old) goal.now }
+{
+    match kind {
+        MoveKind::Subst => substitute_move(work, history, hints, goal),
+        MoveKind::Fert => fertilize_move(work, history, hints, goal),
+        MoveKind::Gen => generalize_move(work, history, hints, &[], goal),
+        MoveKind::Irr => irrelevant_move(work, history, hints, goal),
+        MoveKind::Simp => Ok(None),
+        MoveKind::Elim => Ok(None),
+        MoveKind::Ind => Ok(None),
+    }
+}
+
+/// How many goals the move of a kind leads to in work with few steps; none where it finds nothing, and then it uses no steps.
+fn led_in(
+    rt: &impl Abort,
+    bank: Bank,
+    history: &History,
+    made: u64,
+    kind: MoveKind,
+    no_generalize: bool,
+    goal: &[TermId],
+) -> Result<Option<usize>, Fail>
+    requires stands { HistoryStands bank history.now }
+{
+    let alloc = bank.alloc();
+    let mut work = Work::new(bank, Log::new(alloc), 100);
+    let hints = hints_with(alloc, no_generalize);
+    assert!(rt; are_terms_in(&work, history, made, goal));
+    let found = moved(&mut work, history, &hints, kind, goal);
+    assert!(rt; found.is_ok());
+    match found {
+        Ok(Some(moved)) => Ok(Some(moved.children.len())),
+        Ok(None) => {
+            assert!(rt; work.counter.used() == 0);
+            Ok(None)
+        }
+        Err(_) => Ok(None),
+    }
+}
+
+/// The same, of a goal with the literals of these texts, in the ground history.
+fn led(
+    rt: &impl Abort,
+    alloc: Global,
+    kind: MoveKind,
+    no_generalize: bool,
+    literals: &[&str],
+) -> Result<Option<usize>, Fail> {
+    let mut bank = Bank::new(alloc)?;
+    let name = bank.name(b"FIRST")?;
+    let axiom = term(rt, &mut bank, b"P")?;
+    let mut goal = Vec::new(alloc);
+    for text in literals {
+        let t = term(rt, &mut bank, text.as_bytes())?;
+        goal.push(t)?;
+    }
+    let made = bank.len();
+    let history = history_with(rt, &mut bank, name, axiom)?;
+    led_in(
+        rt,
+        bank,
+        &history,
+        made,
+        kind,
+        no_generalize,
+        goal.as_slice(),
+    )
+}
+
+// Each row is a goal, and whether it has a candidate.
+#[test]
+fn substitutions_are_of_variables(rt: HostRuntime) -> Result<(), Fail> {
+    for (literals, found) in [
+        (["!~X$Q", "*XQ"], true),
+        (["!~$QX", "*XQ"], true),
+        // the variable stands in the term
+        (["!~X$X", "*XQ"], false),
+        // the equation is claimed
+        (["~X$Q", "*XQ"], false),
+        // no side is a variable
+        (["!~$X$Q", "*XQ"], false),
+    ] {
+        let told = led(&rt, rt.alloc(), MoveKind::Subst, false, &literals)?;
+        assert!(rt; told.is_some() == found);
+    }
+    Ok(())
+}
+
+#[test]
+fn fertilizations_are_of_calls_elsewhere(rt: HostRuntime) -> Result<(), Fail> {
+    for (literals, found) in [
+        (["!~*XPQ", "~*XPR"], true),
+        (["!~Q*XP", "~*XPR"], true),
+        // the side stands in no other literal
+        (["!~*XPQ", "~*PXR"], false),
+        // it is a value
+        (["!~2*XP", "~R2"], false),
+        // it is a variable
+        (["!~X*QR", "~XP"], false),
+    ] {
+        let told = led(&rt, rt.alloc(), MoveKind::Fert, false, &literals)?;
+        assert!(rt; told.is_some() == found);
+    }
+    Ok(())
+}
+
+#[test]
+fn generalizations_are_of_calls_that_stand_twice(rt: HostRuntime) -> Result<(), Fail> {
+    for (literals, no_generalize, found) in [
+        // on both sides of one literal, and of the NOT of one
+        (["~*XQ+*XQ", "P"], false, true),
+        (["!~*XQ+*XQ", "P"], false, true),
+        // in two literals
+        (["$*XQ", "@*XQ"], false, true),
+        // on one side alone
+        (["~+*XQX", "P"], false, false),
+        // twice in one literal that is no equation
+        (["@**XQ*XQ", "P"], false, false),
+        // an accessor, and a value
+        (["$$X", "@$X"], false, false),
+        (["~22", "@2"], false, false),
+        // a hint forbids it
+        (["$*XQ", "@*XQ"], true, false),
+    ] {
+        let told = led(&rt, rt.alloc(), MoveKind::Gen, no_generalize, &literals)?;
+        assert!(rt; told.is_some() == found);
+    }
+    Ok(())
+}
+
+#[test]
+fn groups_without_recursion_are_irrelevant(rt: HostRuntime) -> Result<(), Fail> {
+    for (literals, found) in [
+        (["@X", "~*PQQ"], true),
+        // a call of a recursive function on distinct variables
+        (["*XR", "~*PQQ"], true),
+        // it is on one variable twice
+        (["*XX", "~*PQQ"], false),
+        // the literals share a variable
+        (["@P", "~*PQQ"], false),
+    ] {
+        let told = led(&rt, rt.alloc(), MoveKind::Irr, false, &literals)?;
+        assert!(rt; told.is_some() == found);
+    }
+    Ok(())
+}

@@ -1,7 +1,0 @@
--- What is kept so far is in.
-use Rattle.std.specs.Prelude.{All}
-use Rattle.nq_lines.specs.Lines.{IsTermIn}
-use Rattle.nq_moves.proofs.common.common_calls.Given as goal
-
-abbrev pub invariant-loop-t : goal.invariant-loop-t
-invariant-loop-t l = All (IsTermIn l.history l.work) l.kept.items

@@ -1,0 +1,4 @@
+mod ValueLemmas
+mod PlaceLemmas
+mod RuleLemmas
+mod LineLemmas

@@ -1,0 +1,100 @@
+//! Equations of truth values, which are divided by one of them: `(EQUAL P F)` comes to `(IF P F T)`. It decides only what is tried.
+ghost use Rattle.std.specs.Prelude.{◌≡◌, IfSome};
+ghost use Rattle.nq_bank.specs.Content.{Stands};
+ghost use Rattle.nq_kernel.specs.Growing.{WorkStands};
+ghost use Rattle.nq_lines.specs.Lines.{IsTermIn};
+
+use crate::measures::is_recursive;
+use crate::terms::{function_of, is_call_of};
+use nq_bank::{Bank, Sym, TermId, ground};
+use nq_history::History;
+use nq_kernel::Work;
+use nq_reduce::argument_of;
+
+/// Is each value of a function T or F by an axiom?
+fn is_truth_function(history: &History, f: Sym) -> bool {
+    if f.0 == ground::EQUAL.0 {
+        return true;
+    }
+    for shell in history.shells() {
+        if shell.recognizer.0 == f.0 {
+            return true;
+        }
+    }
+    false
+}
+
+/// Is a term T or F by an axiom?
+fn is_truth(bank: &Bank, history: &History, t: TermId) -> bool
+    requires { Stands bank.now t }
+{
+    match function_of(bank, t) {
+        Some(f) => f.0 == ground::TRUE.0 || is_truth_function(history, f),
+        None => false,
+    }
+}
+
+/// Is a term a call of a defined function, or of one whose values are T or F?
+fn may_divide(bank: &Bank, history: &History, t: TermId) -> bool
+    requires { Stands bank.now t }
+{
+    match function_of(bank, t) {
+        Some(f) => is_recursive(history, f).is_some() || is_truth_function(history, f),
+        None => false,
+    }
+}
+
+/// Is an equation of these two divided by the first?
+fn is_divided(bank: &Bank, history: &History, p: TermId, q: TermId) -> bool
+    requires first { Stands bank.now p }
+    requires second { Stands bank.now q }
+{
+    if bank.is_value(p) || !may_divide(bank, history, p) {
+        return false;
+    }
+    is_call_of(bank, ground::FALSE, q) || (is_truth(bank, history, p) && is_truth(bank, history, q))
+}
+
+/// The side of an equation by which it is divided.
+fn dividing_side(work: &Work, history: &History, p: TermId, q: TermId) -> Option<TermId>
+    requires stands { WorkStands history.now work.now }
+    requires first { IsTermIn history.now work.now p }
+    requires second { IsTermIn history.now work.now q }
+    ensures { IfSome result (IsTermIn history.now work.now) }
+{
+    if is_divided(&work.bank, history, p, q) {
+        Some(p)
+    } else if is_divided(&work.bank, history, q, p) {
+        Some(q)
+    } else {
+        None
+    }
+}
+
+/// The same, where this is its first side.
+fn dividing_side_with(work: &Work, history: &History, t: TermId, p: TermId) -> Option<TermId>
+    requires stands { WorkStands history.now work.now }
+    requires term { IsTermIn history.now work.now t }
+    requires first { IsTermIn history.now work.now p }
+    ensures { IfSome result (IsTermIn history.now work.now) }
+{
+    match argument_of(work, history, t, 2) {
+        Some(q) => dividing_side(work, history, p, q),
+        None => None,
+    }
+}
+
+/// The side by which a term is divided that is an equation with F, or of two truth values.
+pub fn compared_side(work: &Work, history: &History, t: TermId) -> Option<TermId>
+    requires stands { WorkStands history.now work.now }
+    requires term { IsTermIn history.now work.now t }
+    ensures { IfSome result (IsTermIn history.now work.now) }
+{
+    if !is_call_of(&work.bank, ground::EQUAL, t) {
+        return None;
+    }
+    match argument_of(work, history, t, 1) {
+        Some(p) => dividing_side_with(work, history, t, p),
+        None => None,
+    }
+}

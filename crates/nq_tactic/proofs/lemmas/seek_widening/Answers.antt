@@ -1,0 +1,24 @@
+use Rattle.nq_bank.specs.Content.{terms_at}
+use Rattle.nq_history.specs.declared.entry.Entry.{Entry}
+use Rattle.std.proofs.Common.{List, rules}
+use Rattle.nq_kernel.specs.declared.work.Work.{Work}
+use Rattle.nq_kernel.specs.Growing.{WorkGrows}
+use Rattle.nq_kernel.proofs.GrowingLemmas.{WorkGrows-trans}
+use Rattle.nq_search.specs.Goals.{CanSearch, IsGoalIn}
+use Rattle.nq_search.proofs.SearchingLemmas.{ready_grown, goal_grown, same_goal}
+use Rattle.nq_tactic.proofs.TacticLemmas.{found_before}
+use Rattle.nq_tactic.proofs.lemmas.seek_widening.Goals as goal
+
+pub seek_again-requires-clause-can : goal.seek_again-requires-clause-can
+seek_again-requires-clause-can c = ready_grown c.args.history.now c.args.work.now c.seek.new.work c.requires.can.stands c.seek.ensures.grows c.ready_histories.ensures.grown c.args.hints.now c.requires.can
+
+pub seek_again-requires-clause-goal : goal.seek_again-requires-clause-goal
+seek_again-requires-clause-goal c = goal_grown c.args.history.now c.args.work.now c.seek.new.work c.requires.can.stands c.seek.ensures.grows c.args.goal.now c.requires.goal
+
+pub returns-in-None-clause-found : goal.returns-in-None-clause-found
+returns-in-None-clause-found c =
+    found_before c.seek_again.new.work (terms_at c.seek.new.work.bank c.args.goal.now) (terms_at c.args.work.now.bank c.args.goal.now) c.seek_again.result
+    (same_goal c.args.history.now c.args.work.now c.seek.new.work c.requires.can.stands c.seek.ensures.grows c.args.goal.now c.requires.goal) c.seek_again.ensures.found
+
+pub returns-in-None-clause-grows : goal.returns-in-None-clause-grows
+returns-in-None-clause-grows c = WorkGrows-trans c.args.history.now c.args.work.now c.seek.new.work c.seek_again.new.work c.seek.ensures.grows c.seek_again.ensures.grows
