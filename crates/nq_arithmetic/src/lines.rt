@@ -84,7 +84,7 @@ fn instance_of(work: &mut Work, history: &History, line: u64, pairs: Vec<Pair>) 
     ensures grows { WorkGrows history.now work.old work.new }
     ensures out { result ≡ Err Stop.OutOfSteps → work.new.counter.used ≡ work.new.counter.limit }
 {
-    work.instance(history, line, pairs)
+    work.find_instance(history, line, pairs)
 }
 
 /// Adds the line of a law, with two terms for X and Y.

@@ -1,6 +1,6 @@
 -- The lines of a log, one after the other, and then the closing line.
 use Rattle.std.proofs.Common.{◌≡◌, ℕ, zero, suc, ◌+◌, ◌<◌, Bool, true, false, Option, Some, None, List, [], ◌∷◌, ◌++◌, length, take, refl, sym, ap, ◌∙◌, subst, add-one, arith}
-use Rattle.std.specs.Prelude.{slice_get, Result, OnOk}
+use Rattle.std.specs.Prelude.{IsSome, slice_get, Result, OnOk}
 use Rattle.std.specs.Option.{option_map}
 use Rattle.std.specs.declared.alloc.AllocError.{AllocError}
 use Rattle.std.proofs.lemmas.List.{take_all, map_push}
@@ -20,7 +20,7 @@ use Rattle.nq_history.specs.declared.entry.Entry.{Entry}
 use Rattle.nq_history.specs.Events.{events_at}
 use Rattle.nq_kernel.specs.declared.rule.Rule.{Rule}
 use Rattle.nq_kernel.specs.declared.rule.Line.{Line}
-use Rattle.nq_kernel.specs.Lines.{ids_if, ids_of, rule_if, rule_of}
+use Rattle.nq_kernel.specs.Lines.{ids_at, ids_if, ids_of, rule_if, rule_of}
 use Rattle.nq_kernel.specs.Meaning.{rule_at, RuleStands, clause_at, conclusion_at}
 use Rattle.nq_kernel.specs.Growing.{IsLegal, LogGrows}
 use Rattle.nq_kernel.specs.Over.{RulesAreOver, IsVariable}
@@ -71,6 +71,11 @@ module _ (bank : Content) (history : List Entry) (log : List Line) (grows : LogG
       let legal = legal_at k below in
       let found : rule_of log (k + 1) ≡ Some legal.line.rule = ap (rule_of log) (add-one k) ∙ ap rule_if legal.at in
       some_same legal.line.rule rule (sym found ∙ told)
+
+  pub line_stands_at : (k : ℕ) → k < length log → IsSome (ids_at log (k + 1))
+  line_stands_at k below =
+      let legal = legal_at k below in
+      subst IsSome (sym (ap (ids_at log) (add-one k) ∙ ap ids_of legal.at ∙ ap (λ b. ids_if b legal.line.clause.items) legal.stands)) refl
 
   pub rule_stands_at : (k : ℕ) (rule : Rule) → k < length log → rule_of log (k + 1) ≡ Some rule → RuleStands bank rule
   rule_stands_at k rule below told = subst (RuleStands bank) (same_rule k rule below told) (legal_at k below).rule

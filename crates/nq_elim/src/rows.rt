@@ -122,7 +122,7 @@ fn instance_line(
     ensures grows { WorkGrows history.now work.old work.new }
     ensures out { result ≡ Err Stop.OutOfSteps → work.new.counter.used ≡ work.new.counter.limit }
 {
-    work.instance(history, line, pairs)
+    work.find_instance(history, line, pairs)
 }
 
 /// Adds the instance of a line that has a term in the place of a variable.

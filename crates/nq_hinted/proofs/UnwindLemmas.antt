@@ -57,7 +57,7 @@ stands_counted history work counter stands = record { log = stands.log; history 
 -- what grew while it was counted by another counter, and has its own again
 pub grown_counted : (history : List Entry) (w0 w1 : Work) (long counter : Counting) → WorkGrows history (counted_by long w0) w1 → counter ≡ w0.counter → GrowsUncounted history w0 (counted_by counter w1)
 grown_counted history w0 w1 long counter g is = record {
-  grows = record { bank = g.bank; names = g.names; log = g.log; rules = g.rules; counter = subst (CountsUp w0.counter) (sym is) (uncounted w0.counter); stands = stands_counted history w1 counter g.stands };
+  grows = record { bank = g.bank; names = g.names; log = g.log; rules = g.rules; counter = subst (CountsUp w0.counter) (sym is) (uncounted w0.counter); known = g.known; stands = stands_counted history w1 counter g.stands };
   uncounted = is;
 }
 

@@ -53,6 +53,6 @@ pub fn instance_of(
 {
     let copy = copied_pairs(work.bank.alloc(), pairs)?;
     let law = reflexive(work, history, t)?;
-    let line = work.instance(history, law, copy)?;
+    let line = work.find_instance(history, law, copy)?;
     Ok(side_in(work, history, line))
 }

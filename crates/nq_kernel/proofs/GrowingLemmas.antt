@@ -5,7 +5,7 @@ use Rattle.std.specs.Option.{option_map}
 use Rattle.std.proofs.lemmas.List.{take_all}
 use Rattle.nq_bank.specs.declared.node.TermId.{TermId}
 use Rattle.nq_bank.specs.Content.{Content, Grows, terms_at}
-use Rattle.nq_bank.proofs.Growth.{Grows-refl, Grows-trans, IsNamed-grown, terms_at-grown}
+use Rattle.nq_bank.proofs.Growth.{Grows-refl, Grows-trans, IsNamed-grown, terms_at-grown, prefix_within}
 use Rattle.nq_steps.specs.NewNames.{AddsSymbols}
 use Rattle.nq_steps.proofs.NameLemmas.{AddsSymbols-refl, AddsSymbols-trans}
 use Rattle.nq_proof.specs.Clauses.{Clause}
@@ -21,7 +21,7 @@ use Rattle.nq_kernel.specs.Counting.{Counting}
 use Rattle.nq_kernel.specs.Over.{IsVariable, RuleIsIn}
 use Rattle.nq_kernel.specs.Growing.{Fits, CountsUp, PrescriptionStands, WorkStands, WorkGrows, LineHolds}
 use Rattle.nq_kernel.proofs.LogLemmas.{ids_stand, over_grown}
-use Rattle.nq_kernel.proofs.LogGrowth.{ids_at-kept, LogGrows-refl, LogGrows-trans, added_over, kept_by_line}
+use Rattle.nq_kernel.proofs.LogGrowth.{ids_at-kept, LogGrows-refl, LogGrows-trans, added_over, kept_by_line, take-kept}
 pub use Rattle.nq_kernel.proofs.LogGrowth.{same_log, added_grows, added_clause}
 use Rattle.nq_kernel.proofs.OverLemmas.{RulesAreOver-trans, added_rule, none_over}
 
@@ -45,6 +45,13 @@ known_grown before after old new known h kept stand =
 -- no step is used
 pub uncounted : (c : Counting) → CountsUp c c
 uncounted c = record { used = omega arith; limit = refl }
+
+-- what is known stays
+pub known_stays : (work : Work) → take (length work.known.items) work.known.items ≡ work.known.items
+known_stays work = take_all (length work.known.items) work.known.items (omega arith)
+
+known_trans : (first second third : Work) → take (length first.known.items) second.known.items ≡ first.known.items → take (length second.known.items) third.known.items ≡ second.known.items → take (length first.known.items) third.known.items ≡ first.known.items
+known_trans first second third one two = take-kept second.known.items third.known.items (length first.known.items) two (prefix_within first.known.items second.known.items one) ∙ one
 
 -- what stands, stands after a line was added
 pub stands_by_line : (history : List Entry) (old : Work) (bank : Content) (log : List Line) (counter : Counting) (rule : Rule) (n : ℕ) → WorkStands history old → Grows old.bank bank → Adds old.bank bank history old.log log rule n → WorkStands history (record { bank = bank; log = log; counter = counter; known = old.known })
@@ -74,6 +81,7 @@ grows_by_line history old bank log counter rule n stands named over grows symbol
       log = added_grows old.bank bank history old.log log rule n grows (fits history old stands) named adds;
       rules = added_rule IsVariable old.bank bank history grows stands.history old.log log rule n named over adds;
       counter = counts;
+      known = known_stays old;
       stands = stands_by_line history old bank log counter rule n stands grows adds;
     }
 
@@ -86,6 +94,7 @@ grows_without_line history old bank log counter stands grows symbols same counts
       log = same_log bank history old.log log same;
       rules = none_over IsVariable bank history old.log log same;
       counter = counts;
+      known = known_stays old;
       stands = stands_without_line history old bank log counter stands grows same;
     }
 
@@ -101,6 +110,7 @@ WorkGrows-refl history work stands =
       log = LogGrows-refl work.bank history work.log;
       rules = none_over IsVariable work.bank history work.log work.log refl;
       counter = uncounted work.counter;
+      known = known_stays work;
       stands = stands;
     }
 
@@ -112,6 +122,7 @@ WorkGrows-trans history first second third one two =
       log = LogGrows-trans second.bank third.bank history first.log second.log third.log two.bank (fits history second one.stands) one.log two.log;
       rules = RulesAreOver-trans IsVariable second.bank third.bank history two.bank one.stands.history first.log second.log third.log one.log two.log.kept one.rules two.rules;
       counter = record { used = omega (arith, one.counter.used, two.counter.used); limit = two.counter.limit ∙ one.counter.limit };
+      known = known_trans first second third one.known two.known;
       stands = two.stands;
     }
 

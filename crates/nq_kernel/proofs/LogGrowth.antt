@@ -35,7 +35,7 @@ ids_at-kept old new (suc k) ids kept e = by_line (slice_get old k) refl e
     by_line None at h = absurd cc
     by_line (Some line) at h = ap ids_of (slice_get-kept old new k line kept at) ∙ h
 
-take-kept : (old new : List Line) (k : ℕ) → take (length old) new ≡ old → k ≤ length old → take k new ≡ take k old
+pub take-kept : {X : Type 0} (old new : List X) (k : ℕ) → take (length old) new ≡ old → k ≤ length old → take k new ≡ take k old
 take-kept old new k kept within = sym (take-take k (length old) new within) ∙ ap (take k) kept
 
 over_taken : (bank : Content) (log : List Line) (k : ℕ) → IsOver bank log → IsOver bank (take k log)

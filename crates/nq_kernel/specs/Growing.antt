@@ -48,14 +48,15 @@ pub record WorkStands (entries : List Entry) (work : Work) : Type 0 where
   pub history : HistoryStands work.bank entries
   pub known : All (PrescriptionStands work.bank work.log) work.known.items
 
--- Terms and lines stay, and steps are only added. New names are symbols in upper case. New lines are legal, and their rules
--- are over the history's functions, with variables that a log can spell.
+-- Terms, lines and what is known of functions stay, and steps are only added. New names are symbols in upper case. New lines
+-- are legal, and their rules are over the history's functions, with variables that a log can spell.
 pub record WorkGrows (history : List Entry) (old new : Work) : Type 0 where
   pub bank : Grows old.bank new.bank
   pub names : AddsSymbols old.bank new.bank
   pub log : LogGrows new.bank history old.log new.log
   pub rules : RulesAreOver IsVariable new.bank history (length old.log) new.log
   pub counter : CountsUp old.counter new.counter
+  pub known : take (length old.known.items) new.known.items ≡ old.known.items
   pub stands : WorkStands history new
 
 -- line n, counted from 1, stands and has this clause

@@ -1,5 +1,6 @@
 -- The clauses of a log's lines, as ids.
-use Rattle.std.specs.Prelude.{ℕ, zero, suc, Bool, true, false, List, Option, Some, None, slice_get}
+use Rattle.std.specs.Prelude.{ℕ, zero, suc, Bool, true, false, List, Option, Some, None, length, slice_get}
+use Rattle.std.specs.List.{filter}
 use Rattle.nq_bank.specs.declared.node.TermId.{TermId}
 use Rattle.nq_kernel.specs.declared.rule.Rule.{Rule}
 use Rattle.nq_kernel.specs.declared.rule.Line.{Line}
@@ -21,6 +22,10 @@ ids_at log (suc k) = ids_of (slice_get log k)
 abbrev pub rule_if : Option Line → Option Rule
 rule_if None = None
 rule_if (Some line) = Some line.rule
+
+-- how many of the lines stand
+abbrev pub live_lines : List Line → ℕ
+live_lines log = length (filter (λ line. line.stands) log)
 
 -- the rule of line n, counted from 1, whether it stands or not
 abbrev pub rule_of : List Line → ℕ → Option Rule

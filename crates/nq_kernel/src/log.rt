@@ -1,5 +1,5 @@
 //! The log: lines whose clauses follow by its rules from the lines before them.
-ghost use Rattle.std.specs.Prelude.{◌≡◌, ◌+◌, ◌-◌, ◌<◌, ◌≤◌, ◌^◌, ◌++◌, ◌∷◌, [], ℕ, false, length, All, IfOk, OnOk, OnErr, IsSome, is_some, IfSome, ◌&&◌, Some, None, Err, slice_set};
+ghost use Rattle.std.specs.Prelude.{◌≡◌, ◌+◌, ◌-◌, ◌<◌, ◌≤◌, ◌^◌, ◌++◌, ◌∷◌, [], ℕ, false, length, All, IfOk, OnOk, OnErr, IsSome, is_some, IfSome, IsTrue, ◌&&◌, Some, None, Err, slice_set};
 ghost use Rattle.std.specs.Option.{option_copied, option_map};
 ghost use Rattle.nq_bank.specs.Content.{Content, Grows, Stands, term_at};
 ghost use Rattle.nq_steps.specs.NewNames.{AddsSymbols};
@@ -16,7 +16,7 @@ ghost use Rattle.nq_rule.specs.Conclusions.{Concludes, IsDeep};
 ghost use Rattle.nq_rule.specs.Places.{part_at};
 ghost use Rattle.nq_rule.specs.Results.{first_split_of, second_split_of, not_not_of};
 ghost use Rattle.nq_kernel.specs.Meaning.{clause_at, IsOver, RuleStands, Adds, conclusion_at, is_axiom_row};
-ghost use Rattle.nq_kernel.specs.Lines.{ids_at, rule_of};
+ghost use Rattle.nq_kernel.specs.Lines.{ids_at, live_lines, rule_of};
 
 use crate::axioms::{clause_of_axiom, has_axiom};
 use crate::inductions::{cases_hold, shows_base, shows_ordinal};
@@ -34,6 +34,7 @@ use nq_rule::{
 use nq_value::has_value;
 use nq_value_rule::value_clause;
 use std::alloc::{AllocError, Global};
+use std::collections::HashMap;
 use std::marker::Model;
 
 /// Lines, each with the clause that its rule gave.
@@ -41,6 +42,60 @@ use std::marker::Model;
 pub struct Log {
     alloc: Global,
     lines: Vec<Line>,
+    /// The number of a line that may have the clause of this mark.
+    marks: HashMap<u64, u64>,
+}
+
+/// The factor that mixes the bits of a mark.
+const FACTOR: u64 = 0x9E37_79B9_7F4A_7C15;
+
+/// A number for a clause, which other clauses seldom have.
+fn mark_of(clause: &[TermId]) -> u64 {
+    let mut mark = FACTOR;
+    for t in clause {
+        let product = (mark ^ t.0).wrapping_mul(FACTOR);
+        mark = product ^ (product >> 29);
+    }
+    mark
+}
+
+/// Are two literals one?
+fn is_same_literal(literal: TermId, other: TermId) -> bool
+    ensures { IsTrue result → literal ≡ other }
+{
+    literal == other
+}
+
+/// Are two clauses the same, literal by literal?
+fn is_same_clause(clause: &[TermId], other: &[TermId]) -> bool
+    ensures { IsTrue result → clause.now ≡ other.now }
+{
+    match clause {
+        [] => other.is_empty(),
+        [first, rest @ ..] => match other {
+            [] => false,
+            [head, tail @ ..] => {
+                if is_same_literal(*first, *head) {
+                    is_same_clause(rest, tail)
+                } else {
+                    false
+                }
+            }
+        },
+    }
+}
+
+/// How many of these lines stand.
+fn count_standing(lines: &[Line]) -> u64
+    ensures { result ≡ live_lines lines.now }
+{
+    let mut standing = 0;
+    for line in lines {
+        if line.stands {
+            standing += 1;
+        }
+    }
+    standing
 }
 
 impl Model for Log {
@@ -60,6 +115,7 @@ impl Log {
         Log {
             alloc,
             lines: Vec::new(alloc),
+            marks: HashMap::new(alloc),
         }
     }
 
@@ -105,25 +161,78 @@ impl Log {
         self.cited(line).unwrap()
     }
 
-    /// The rule by which a line was added; it stays readable after the line is dropped.
+    /// The rule by which a line was added that stands.
     pub fn rule(&self, line: u64) -> &Rule
-        requires first { 1 ≤ line }
-        requires last { line ≤ length self.now }
+        requires { IsSome (ids_at self.now line) }
         ensures { rule_of self.now line ≡ Some result.now }
     {
         &self.lines[(line - 1) as usize].rule
     }
 
-    /// Ends the use of a line.
+    /// How many lines stand: they were added, and not dropped.
+    pub fn live(&self) -> u64
+        ensures { result ≡ live_lines self.now }
+    {
+        count_standing(self.lines.as_slice())
+    }
+
+    /// A line that has this clause, if one is noted that does.
+    fn noted(&self, clause: &[TermId]) -> Option<u64>
+        ensures { IfSome result (λ n. ids_at self.now n ≡ Some clause.now) }
+    {
+        let n = self.marks.get(&mark_of(clause)).copied()?;
+        let found = self.cited(n)?;
+        if is_same_clause(found, clause) {
+            Some(n)
+        } else {
+            None
+        }
+    }
+
+    /// Notes a line, so that one with its clause is found. Where memory is wanting it is not noted.
+    pub fn note(&mut self, line: u64)
+        ensures { self.new ≡ self.old }
+    {
+        if let Some(clause) = self.cited(line) {
+            let mark = mark_of(clause);
+            let _ = self.marks.insert(mark, line);
+        }
+    }
+
+    /// A noted line that has the clause which an allowed rule gives, if there is one.
+    pub fn find(
+        &self,
+        bank: &mut Bank,
+        history: &History,
+        rule: &Rule,
+    ) -> Result<Option<u64>, BankFault>
+        requires log { IsOver bank.old self.now }
+        requires history { HistoryStands bank.old history.now }
+        requires rule { RuleStands bank.old rule.now }
+        requires allowed { IsSome (conclusion_at bank.old history.now self.now rule.now) }
+        ensures line { IfOk result (λ found. IfSome found (λ n. clause_at bank.new self.now n ≡ conclusion_at bank.old history.now self.now rule.now)) }
+        ensures grows { Grows bank.old bank.new }
+        ensures deep { result ≡ Err BankFault.Deep → IsDeep (conclusion_at bank.old history.now self.now rule.now) }
+        ensures symbols { AddsSymbols bank.old bank.new }
+    {
+        let clause = self.conclude(bank, history, rule)?;
+        Ok(self.noted(clause.as_slice()))
+    }
+
+    /// Ends the use of a line: the room that its clause and its rule took is given back.
     pub fn drop_line(&mut self, line: u64)
         requires { IsSome (ids_at self.old line) }
         ensures gone { ids_at self.new line ≡ None }
         ensures others { (n : ℕ) → (n ≡ line → ⊥) → ids_at self.new n ≡ ids_at self.old n }
-        ensures rules { (n : ℕ) → rule_of self.new n ≡ rule_of self.old n }
+        ensures rules { (n : ℕ) → (n ≡ line → ⊥) → rule_of self.new n ≡ rule_of self.old n }
         ensures count { length self.new ≡ length self.old }
         ensures over { (bank : Content) → IsOver bank self.old → IsOver bank self.new }
     {
-        self.lines[(line - 1) as usize].stands = false;
+        self.lines[(line - 1) as usize] = Line {
+            rule: Rule::Taut(Vec::new(self.alloc)),
+            clause: Vec::new(self.alloc),
+            stands: false,
+        };
     }
 
     /// The clause of a line, over a bank.

@@ -1,5 +1,5 @@
 //! Work that provers do: a bank, a log, a counter, and the type prescriptions that are known.
-ghost use Rattle.std.specs.Prelude.{◌≡◌, ◌+◌, ◌*◌, ◌≤◌, ◌<◌, ◌↔◌, ◌⊎◌, [], All, IfOk, OnOk, IsOk, IsSome, IsTrue, Err, Some, length, min};
+ghost use Rattle.std.specs.Prelude.{◌≡◌, ◌+◌, ◌*◌, ◌≤◌, ◌<◌, ◌↔◌, ◌⊎◌, [], All, IfOk, IfSome, OnOk, IsOk, IsSome, IsTrue, Err, Some, length, min};
 ghost use Rattle.nq_logic.specs.Terms.{call};
 ghost use Rattle.nq_logic.specs.Sizes.{depth_of, depth_limit};
 ghost use Rattle.nq_logic.specs.Ground.{symbols_of};
@@ -142,6 +142,89 @@ impl Work {
                 Err(Stop::Memory)
             }
         }
+    }
+
+    /// The number of a noted line that has the clause which an allowed rule gives, if there is one; new terms are counted.
+    fn find(&mut self, history: &History, rule: &Rule) -> Result<Option<u64>, Stop>
+        requires stands { WorkStands history.now self.old }
+        requires rule { RuleStands self.old.bank rule.now }
+        requires allowed { IsSome (conclusion_at self.old.bank history.now self.old.log rule.now) }
+        ensures line { IfOk result (λ found. IfSome found (λ n. clause_at self.new.bank self.new.log n ≡ conclusion_at self.old.bank history.now self.old.log rule.now)) }
+        ensures log { self.new.log ≡ self.old.log }
+        ensures grows { WorkGrows history.now self.old self.new }
+        ensures out { result ≡ Err Stop.OutOfSteps → self.new.counter.used ≡ self.new.counter.limit }
+    {
+        let before = self.bank.len();
+        let found = self.log.find(&mut self.bank, history, rule);
+        let made = u128::from(self.bank.len().saturating_sub(before));
+        match found {
+            Ok(line) => {
+                if self.counter.count(made) {
+                    Ok(line)
+                } else {
+                    Err(Stop::OutOfSteps)
+                }
+            }
+            Err(BankFault::Deep) => {
+                self.counter.use_up();
+                Err(Stop::OutOfSteps)
+            }
+            Err(BankFault::Memory) => {
+                self.counter.count(made);
+                Err(Stop::Memory)
+            }
+        }
+    }
+
+    /// Adds the line of an allowed rule and notes it.
+    fn add_noted(&mut self, history: &History, rule: Rule) -> Result<u64, Stop>
+        requires stands { WorkStands history.now self.old }
+        requires rule { RuleStands self.old.bank rule }
+        requires over { RuleIsIn self.old.bank history.now rule }
+        requires allowed { IsSome (conclusion_at self.old.bank history.now self.old.log rule) }
+        ensures line { IfOk result (λ n. clause_at self.new.bank self.new.log n ≡ conclusion_at self.old.bank history.now self.old.log rule) }
+        ensures grows { WorkGrows history.now self.old self.new }
+        ensures out { result ≡ Err Stop.OutOfSteps → self.new.counter.used ≡ self.new.counter.limit }
+    {
+        let line = self.add(history, rule)?;
+        self.log.note(line);
+        Ok(line)
+    }
+
+    /// The number of a line that has the clause which an allowed rule over the history's functions gives: of one that this call
+    /// made before, or else of a new one, which is counted as `add` counts it.
+    pub fn find_or_add(&mut self, history: &History, rule: Rule) -> Result<u64, Stop>
+        requires stands { WorkStands history.now self.old }
+        requires rule { RuleStands self.old.bank rule }
+        requires over { RuleIsIn self.old.bank history.now rule }
+        requires allowed { IsSome (conclusion_at self.old.bank history.now self.old.log rule) }
+        ensures line { IfOk result (λ n. clause_at self.new.bank self.new.log n ≡ conclusion_at self.old.bank history.now self.old.log rule) }
+        ensures grows { WorkGrows history.now self.old self.new }
+        ensures out { result ≡ Err Stop.OutOfSteps → self.new.counter.used ≡ self.new.counter.limit }
+    {
+        match self.find(history, &rule)? {
+            Some(line) => Ok(line),
+            None => self.add_noted(history, rule),
+        }
+    }
+
+    /// The same of a line with terms in place of variables.
+    pub fn find_instance(
+        &mut self,
+        history: &History,
+        line: u64,
+        pairs: Vec<Pair>,
+    ) -> Result<u64, Stop>
+        requires stands { WorkStands history.now self.old }
+        requires line { LineStands self.old line }
+        requires pairs { All (PairStands self.old.bank) pairs.items }
+        requires distinct { IsTrue (is_substitution (substitution_at self.old.bank pairs.items)) }
+        requires over { RuleIsOver IsVariable (symbols_of (events_at self.old.bank history.now)) (tree.Instance line (substitution_at self.old.bank pairs.items)) }
+        ensures line { IfOk result (λ n. LineHolds self.new n (instance_of (substitution_at self.old.bank pairs.items) (held self.old line))) }
+        ensures grows { WorkGrows history.now self.old self.new }
+        ensures out { result ≡ Err Stop.OutOfSteps → self.new.counter.used ≡ self.new.counter.limit }
+    {
+        self.find_or_add(history, Rule::Instance(line, pairs))
     }
 
     /// Counts an entry of the rewriter, which is nested in so many others; one that is nested too deep uses the counter up.

@@ -26,7 +26,7 @@ pub fn instance_fact(
     ensures grows { WorkGrows history.now work.old work.new }
     ensures out { result ≡ Err Stop.OutOfSteps → work.new.counter.used ≡ work.new.counter.limit }
 {
-    let line = work.instance(history, fact.line, pairs)?;
+    let line = work.find_instance(history, fact.line, pairs)?;
     match literal_of(work, history, line) {
         Some(t) => Ok(Some(Fact { term: t, line })),
         None => Ok(None),

@@ -76,7 +76,7 @@ fn opposites_of(work: &mut Work, history: &History, t: TermId, denied: TermId) -
     ensures out { result ≡ Err Stop.OutOfSteps → work.new.counter.used ≡ work.new.counter.limit }
 {
     match vec![in work.bank.alloc(); t, denied] {
-        Ok(terms) => work.add(history, Rule::Taut(terms)),
+        Ok(terms) => work.find_or_add(history, Rule::Taut(terms)),
         Err(_) => Err(Stop::Memory),
     }
 }
@@ -104,7 +104,7 @@ pub fn reflexive(work: &mut Work, history: &History, t: TermId) -> Result<u64, S
     ensures grows { WorkGrows history.now work.old work.new }
     ensures out { result ≡ Err Stop.OutOfSteps → work.new.counter.used ≡ work.new.counter.limit }
 {
-    work.add(history, Rule::Reflexive(t))
+    work.find_or_add(history, Rule::Reflexive(t))
 }
 
 /// Adds a line with u at a path of its first literal, and with the equation of what stood there and u as a hypothesis.

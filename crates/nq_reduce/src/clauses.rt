@@ -159,6 +159,6 @@ pub fn instance_line(
     ensures grows { WorkGrows history.now work.old work.new }
     ensures out { result ≡ Err Stop.OutOfSteps → work.new.counter.used ≡ work.new.counter.limit }
 {
-    let made = work.instance(history, line, pairs)?;
+    let made = work.find_instance(history, line, pairs)?;
     Ok(Some(made))
 }

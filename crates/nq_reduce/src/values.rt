@@ -96,7 +96,7 @@ fn value_shown(
     ensures grows { WorkGrows history.now work.old work.new }
     ensures out { result ≡ Err Stop.OutOfSteps → work.new.counter.used ≡ work.new.counter.limit }
 {
-    let line = work.add(history, Rule::Value(t))?;
+    let line = work.find_or_add(history, Rule::Value(t))?;
     Ok(Rewritten {
         term: v,
         line: Some(line),

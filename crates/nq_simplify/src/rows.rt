@@ -26,7 +26,7 @@ pub fn add_if_row(work: &mut Work, history: &History, truth: bool) -> Result<u64
     ensures out { result ≡ Err Stop.OutOfSteps → work.new.counter.used ≡ work.new.counter.limit }
 {
     let name = ground_name(&work.bank, ground::IF);
-    work.add(history, Rule::AxiomRow(name, row_number(truth), 0))
+    work.find_or_add(history, Rule::AxiomRow(name, row_number(truth), 0))
 }
 
 /// The variables of the axioms for IF.
@@ -76,7 +76,7 @@ pub fn add_row_at(
         term: second,
     };
     match vec![in work.bank.alloc(); x, y, z] {
-        Ok(pairs) => work.instance(history, line, pairs),
+        Ok(pairs) => work.find_instance(history, line, pairs),
         Err(_) => Err(Stop::Memory),
     }
 }

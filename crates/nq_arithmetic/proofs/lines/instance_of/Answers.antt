@@ -3,8 +3,8 @@ use Rattle.nq_kernel.specs.Growing.{LineStands}
 use Rattle.nq_kernel.proofs.HeldLines.{holds_stands}
 use Rattle.nq_arithmetic.proofs.lines.instance_of.Goals as goal
 
-pub instance-requires-clause-over : goal.instance-requires-clause-over
-instance-requires-clause-over c = record { terms = c.requires.pairs.terms; names = c.requires.pairs.names }
+pub find_instance-requires-clause-over : goal.find_instance-requires-clause-over
+find_instance-requires-clause-over c = record { terms = c.requires.pairs.terms; names = c.requires.pairs.names }
 
 pub returns-clause-line : goal.returns-clause-line
-returns-clause-line c = for_ok c.instance.result _ (LineStands c.instance.new.self) (λ n holds. holds_stands c.instance.new.self n _ holds) c.instance.ensures.line
+returns-clause-line c = for_ok c.find_instance.result _ (LineStands c.find_instance.new.self) (λ n holds. holds_stands c.find_instance.new.self n _ holds) c.find_instance.ensures.line

@@ -9,11 +9,11 @@ use Rattle.nq_lines.specs.Lines.{LineLeads}
 use Rattle.nq_lines.proofs.LineLemmas.{reflexive_given, leads_distinct}
 use Rattle.nq_lines.proofs.rules.reflexive.Goals as goal
 
-pub add-requires-clause-allowed : goal.add-requires-clause-allowed
-add-requires-clause-allowed c = ap is_some (reflexive_given c.args.history.now c.args.work.now c.args.t)
+pub find_or_add-requires-clause-allowed : goal.find_or_add-requires-clause-allowed
+find_or_add-requires-clause-allowed c = ap is_some (reflexive_given c.args.history.now c.args.work.now c.args.t)
 
 pub returns-clause-line : goal.returns-clause-line
 returns-clause-line c =
     let u = term_at c.args.work.now.bank c.args.t in
-    let P : ℕ → Type 0 = λ n. clause_at c.add.new.self.bank c.add.new.self.log n ≡ conclusion_at c.args.work.now.bank c.args.history.now c.args.work.now.log (Reflexive c.args.t) in
-    for_ok c.add.result P (λ n. LineLeads c.add.new.self n (equal_term u u) []) (λ n e. leads_distinct c.add.new.self n (equal_term u u) [] [] (e ∙ reflexive_given c.args.history.now c.args.work.now c.args.t) (λ t m. m)) c.add.ensures.line
+    let P : ℕ → Type 0 = λ n. clause_at c.find_or_add.new.self.bank c.find_or_add.new.self.log n ≡ conclusion_at c.args.work.now.bank c.args.history.now c.args.work.now.log (Reflexive c.args.t) in
+    for_ok c.find_or_add.result P (λ n. LineLeads c.find_or_add.new.self n (equal_term u u) []) (λ n e. leads_distinct c.find_or_add.new.self n (equal_term u u) [] [] (e ∙ reflexive_given c.args.history.now c.args.work.now c.args.t) (λ t m. m)) c.find_or_add.ensures.line

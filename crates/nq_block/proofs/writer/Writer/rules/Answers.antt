@@ -1,8 +1,11 @@
 use Rattle.std.proofs.Common.{arith, length, rules, subst, ◌≡◌}
 use Rattle.std.specs.Prelude.{Ok}
 use Rattle.nq_block.specs.Writing.{IsWriting, frame_after}
-use Rattle.nq_block.proofs.BlockLemmas.{rule_stands_at, rule_goes_on}
+use Rattle.nq_block.proofs.BlockLemmas.{line_stands_at, rule_stands_at, rule_goes_on}
 use Rattle.nq_block.proofs.writer.Writer.rules.Goals as goal
+
+pub rule-line-requires : goal.rule-line-requires
+rule-line-requires c = line_stands_at c.args.bank.now c.args.history.now c.args.log.now c.requires.legal c.requires.over c.loop-k.k (omega arith)
 
 pub rule-requires-clause-stands : goal.rule-requires-clause-stands
 rule-requires-clause-stands c = rule_stands_at c.args.bank.now c.args.history.now c.args.log.now c.requires.legal c.requires.over c.loop-k.k c.rule-line.result.now (omega arith) c.rule-line.ensures

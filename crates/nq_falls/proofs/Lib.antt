@@ -1,0 +1,3 @@
+pub mod TestLemmas
+mod DifferenceFalls
+pub mod GroundFalls
