@@ -16,3 +16,6 @@ pub mod GroundLemmas
 pub mod SoundLemmas
 pub mod Standing
 pub mod DeepLemmas
+pub mod PageLemmas
+pub mod PagingLemmas
+pub mod Hashing

@@ -5,8 +5,12 @@ pub mod Content
 pub mod Heads
 pub mod Soundness
 pub mod Marks
+pub mod Entries
+pub mod Paging
+pub mod Hashes
 pub mod Nodes
 pub mod Wanted
+pub mod Places
 pub mod Held
 pub mod Texts
 pub mod Faults

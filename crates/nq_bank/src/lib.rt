@@ -13,9 +13,15 @@ mod node;
 // the names that each bank begins with
 pub mod ground;
 
-// the names, and the nodes
+// the names
 mod names;
+
+// the nodes: their records, the pages that these lie in, and the table that finds them by their hashes
+mod hash;
 mod nodes;
+mod page;
+mod pages;
+mod record;
 
 // what is kept with a call
 mod calls;

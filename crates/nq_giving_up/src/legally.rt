@@ -39,7 +39,10 @@ pub fn give_up(
 {
     let mut mover = Legal {
         closer: NoCloser,
-        rewriter: LiteralRewriter { hints },
+        rewriter: LiteralRewriter {
+            hints,
+            until: u64::MAX,
+        },
         inductor: OneCase,
     };
     give_up_by(alloc, bank, &mut mover, history, hints, goal, steps)

@@ -102,7 +102,10 @@ fn follow_lemma(
     let mark = bank.mark();
     let mut mover = Legal {
         closer: NoCloser,
-        rewriter: LiteralRewriter { hints },
+        rewriter: LiteralRewriter {
+            hints,
+            until: u64::MAX,
+        },
         inductor: OneCase,
     };
     let mut work = Work::new(bank, Log::new(alloc), TRACE_STEPS);

@@ -21,6 +21,8 @@ use nq_simplify::{NewLiteral, Rewriter};
 pub struct LiteralRewriter<'a> {
     /// The hints.
     pub hints: &'a Hints,
+    /// The count of used steps from which on no literal is rewritten.
+    pub until: u64,
 }
 
 impl<'a> Rewriter for LiteralRewriter<'a> {
@@ -31,8 +33,16 @@ impl<'a> Rewriter for LiteralRewriter<'a> {
         others: &[TermId],
         literal: TermId,
     ) -> Result<Option<NewLiteral>, Stop> {
+        if is_past(work, self.until) {
+            return Ok(None);
+        }
         rewrite_beside(work, history, self.hints, others, literal)
     }
+}
+
+/// Are this many steps used?
+fn is_past(work: &Work, until: u64) -> bool {
+    work.counter.used() >= until
 }
 
 /// Rewrites a literal under the negations of the others. Where T is one of the literals, it closes the goal.

@@ -159,20 +159,13 @@ pub fn add_terms(bank: &Bank, kept: &mut Vec<TermId>, t: TermId) -> Result<(), A
     Ok(())
 }
 
-/// Is a term before another: it has fewer variables, or as many and fewer nodes, or as many and lesser names from the left?
+/// Is a term before another: it has fewer variables, or as many and fewer nodes, or as many and a lesser head, or then the lesser
+/// arguments from the left, by this same order?
 pub fn is_before(bank: &Bank, t: TermId, u: TermId) -> bool
     requires left { Stands bank.now t }
     requires right { Stands bank.now u }
 {
-    let one = variables_in(bank, t);
-    let two = variables_in(bank, u);
-    if one != two {
-        return one < two;
-    }
-    if bank.size(t) != bank.size(u) {
-        return bank.size(t) < bank.size(u);
-    }
-    match by_names(bank, t, u) {
+    match by_order(bank, t, u) {
         Some(less) => less,
         None => false,
     }
@@ -207,12 +200,39 @@ fn by_heads(bank: &Bank, t: TermId, u: TermId) -> Option<bool>
     }
 }
 
-/// Are the names of a term less than those of another, from the left; none where they are the same.
-fn by_names(bank: &Bank, t: TermId, u: TermId) -> Option<bool>
+/// Has a term fewer variables than another, or as many and fewer nodes; none where both are as many.
+fn by_extent(bank: &Bank, t: TermId, u: TermId) -> Option<bool>
     requires left { Stands bank.now t }
     requires right { Stands bank.now u }
 {
-    let less = by_heads(bank, t, u);
+    let less = less_of(variables_in(bank, t) as u128, variables_in(bank, u) as u128);
+    if less.is_some() {
+        return less;
+    }
+    less_of(bank.size(t) as u128, bank.size(u) as u128)
+}
+
+/// Is a term less than another by its extent, or then by its head; none where both are the same.
+fn by_outside(bank: &Bank, t: TermId, u: TermId) -> Option<bool>
+    requires left { Stands bank.now t }
+    requires right { Stands bank.now u }
+{
+    let less = by_extent(bank, t, u);
+    if less.is_some() {
+        return less;
+    }
+    by_heads(bank, t, u)
+}
+
+/// Is a term before another; none where they are one.
+fn by_order(bank: &Bank, t: TermId, u: TermId) -> Option<bool>
+    requires left { Stands bank.now t }
+    requires right { Stands bank.now u }
+{
+    if t.0 == u.0 {
+        return None;
+    }
+    let less = by_outside(bank, t, u);
     if less.is_some() {
         return less;
     }
@@ -220,7 +240,7 @@ fn by_names(bank: &Bank, t: TermId, u: TermId) -> Option<bool>
     let right = bank.args(u);
     for i in 0..left.len() {
         if i < right.len() {
-            let less = by_names(bank, left[i], right[i]);
+            let less = by_order(bank, left[i], right[i]);
             if less.is_some() {
                 return less;
             }

@@ -1,6 +1,7 @@
 -- What the lines of a scheme stand on, however the work grows.
 use Rattle.std.proofs.Common.{◌≡◌, ◌<◌, ◌∙◌, ℕ, List, [], ◌∷◌, length, get_or, refl, sym, ap, subst, arith}
-use Rattle.std.specs.Prelude.{All, Option, Some, None, IfSome}
+use Rattle.std.specs.Prelude.{All, Option, Some, None, IfSome, Vec}
+use Rattle.std.specs.declared.alloc.Global.{Global}
 use Rattle.nq_logic.specs.Terms.{Term, Variable}
 use Rattle.nq_logic.specs.Words.{call1}
 use Rattle.nq_bank.specs.declared.node.Sym.{Sym}
@@ -23,6 +24,7 @@ use Rattle.nq_schemes.specs.declared.opened.Opened.{Opened}
 use Rattle.nq_schemes.specs.declared.basis.SizedVariable.{SizedVariable}
 use Rattle.nq_schemes.specs.declared.basis.Basis.{Basis}
 use Rattle.nq_schemes.specs.Known.{IsNameOf, IsOpenedIn, with_some}
+use Rattle.nq_schemes.specs.Owed.{AreGoalsIn}
 use Rattle.nq_schemes.specs.Steps.{IsBasisIn, IsOrdinalIn, IsSizedIn, IsStartIn}
 use Rattle.nq_lines.specs.declared.facts.Fact.{Fact}
 
@@ -80,6 +82,9 @@ module _ (history : List Entry) (old new : Work) (stands : WorkStands history ol
 
   pub cases_grown : (measure : TermId) (cs : List Case) → IsTermIn history old measure → All (IsCaseIn history old measure) cs → All (IsCaseIn history new measure) cs
   cases_grown measure cs m h = λ k d below. case_grown history old new stands grows measure (get_or cs k d) m (h k d below)
+
+  pub goals_grown : (gs : List (Vec TermId Global)) → AreGoalsIn history old gs → AreGoalsIn history new gs
+  goals_grown gs h = λ k d below. terms_grown (get_or gs k d).items (h k d below)
 
 -- nothing yet, and one of a list
 pub none_all : {X : Type 0} (P : X → Type 0) (xs : List X) → xs ≡ [] → All P xs

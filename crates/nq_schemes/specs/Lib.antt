@@ -2,3 +2,4 @@ pub mod Places
 pub mod Known
 pub mod Steps
 pub mod Laws
+pub mod Owed

@@ -68,7 +68,7 @@ fn add_term(terms: &mut Vec<TermId>, found: Option<TermId>) -> Result<(), Stop>
 }
 
 /// Tests as they govern, those whose terms are known.
-fn governing_all(
+pub fn governing_all(
     work: &mut Work,
     history: &History,
     basis: &Basis,
@@ -89,7 +89,7 @@ fn governing_all(
 }
 
 /// Makes the NOTs of terms.
-fn denials(work: &mut Work, history: &History, terms: &[TermId]) -> Result<Vec<TermId>, Stop>
+pub fn denials(work: &mut Work, history: &History, terms: &[TermId]) -> Result<Vec<TermId>, Stop>
     requires stands { WorkStands history.now work.old }
     requires terms { All (IsTermIn history.now work.old) terms.now }
     ensures denials { IfOk result (λ v. All (IsTermIn history.now work.new) v.items) }

@@ -48,6 +48,9 @@ mod tables;
 mod bases;
 mod basis;
 mod gathering;
+mod learnt;
+mod owed;
+mod owed_ordinals;
 mod plain;
 mod showing;
 mod starting;
@@ -59,4 +62,6 @@ mod schemes;
 mod laws;
 
 pub use laws::schemes_last;
+pub use owed::owed_falls;
+pub use owed_ordinals::owed_ordinal;
 pub use schemes::scheme_of;

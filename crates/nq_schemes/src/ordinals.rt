@@ -9,6 +9,7 @@ ghost use Rattle.nq_replay.specs.Replaying.{law_clause};
 ghost use Rattle.nq_replay.specs.Uncounted.{GrowsUncounted};
 ghost use Rattle.nq_schemes.specs.Steps.{IsOrdinalIn};
 
+use crate::learnt::known_ordinal;
 use crate::own::is_own;
 use crate::tables::fix_is_ordinal::FIX_IS_ORDINAL;
 use crate::terms::{argument_of, is_call_of};
@@ -71,7 +72,7 @@ fn law_line(work: &mut Work, history: &History, fixed: bool) -> Result<u64, Stop
 }
 
 /// The term of a law's line.
-fn law_fact(work: &Work, history: &History, line: u64) -> Option<Fact>
+pub fn law_fact(work: &Work, history: &History, line: u64) -> Option<Fact>
     requires stands { WorkStands history.now work.now }
     requires line { LineStands work.now line }
     ensures { IfSome result (IsFact history.now work.now) }
@@ -121,10 +122,11 @@ fn instance_at(
 }
 
 /// Makes that a term is an ordinal.
-fn ordinal_term(work: &mut Work, history: &History, t: TermId) -> Result<TermId, Stop>
+pub fn ordinal_term(work: &mut Work, history: &History, t: TermId) -> Result<TermId, Stop>
     requires stands { WorkStands history.now work.old }
     requires term { IsTermIn history.now work.old t }
     ensures term { IfOk result (λ s. IsIdOf work.new.bank s (call1 "ORDINALP" (term_at work.old.bank t))) }
+    ensures over { IfOk result (λ s. IsTermIn history.now work.new s) }
     ensures grows { WorkGrows history.now work.old work.new }
     ensures out { result ≡ Err Stop.OutOfSteps → work.new.counter.used ≡ work.new.counter.limit }
 {
@@ -158,7 +160,7 @@ fn ordinal_at(
 }
 
 /// The term of which a line says that it is an ordinal.
-fn ordinal_in(work: &mut Work, history: &History, fact: Fact) -> Result<Option<Fact>, Stop>
+pub fn ordinal_in(work: &mut Work, history: &History, fact: Fact) -> Result<Option<Fact>, Stop>
     requires stands { WorkStands history.now work.old }
     requires fact { IsFact history.now work.old fact }
     ensures ordinal { IfOk result (λ found. IfSome found (IsOrdinalIn history.now work.new)) }
@@ -203,7 +205,22 @@ fn ordinal_by(
     }
 }
 
-/// The ordinal that serves for a measure m, and the line that it is one: m itself where it is a FIX, else `(IF (ORDINALP m) m 0)`.
+/// The ordinal that serves for a measure m, and the line that it is one, by a law: m itself where it is a FIX, else
+/// `(IF (ORDINALP m) m 0)`.
+fn ordinal_by_law(work: &mut Work, history: &History, measure: TermId) -> Result<Option<Fact>, Stop>
+    requires stands { WorkStands history.now work.old }
+    requires measure { IsTermIn history.now work.old measure }
+    ensures ordinal { IfOk result (λ found. IfSome found (IsOrdinalIn history.now work.new)) }
+    ensures grows { WorkGrows history.now work.old work.new }
+    ensures out { result ≡ Err Stop.OutOfSteps → work.new.counter.used ≡ work.new.counter.limit }
+{
+    let fixed = is_call_of(&work.bank, ground::FIX, measure);
+    let line = law_line(work, history, fixed)?;
+    ordinal_by(work, history, measure, fixed, line)
+}
+
+/// The ordinal that serves for a measure m, and the line that it is one: m itself where that is known, or where it is a FIX, else
+/// `(IF (ORDINALP m) m 0)`.
 pub fn ordinal_for(
     work: &mut Work,
     history: &History,
@@ -215,7 +232,8 @@ pub fn ordinal_for(
     ensures grows { WorkGrows history.now work.old work.new }
     ensures out { result ≡ Err Stop.OutOfSteps → work.new.counter.used ≡ work.new.counter.limit }
 {
-    let fixed = is_call_of(&work.bank, ground::FIX, measure);
-    let line = law_line(work, history, fixed)?;
-    ordinal_by(work, history, measure, fixed, line)
+    match known_ordinal(work, history, measure)? {
+        Some(fact) => Ok(Some(fact)),
+        None => ordinal_by_law(work, history, measure),
+    }
 }

@@ -85,7 +85,7 @@ fn scheme_by(
 }
 
 /// What falls in a draft.
-fn falling_in(work: &Work, history: &History, draft: &Draft) -> Result<Option<Falling>, Stop>
+pub fn falling_in(work: &Work, history: &History, draft: &Draft) -> Result<Option<Falling>, Stop>
     ensures memory { result ≡ Err Stop.OutOfSteps → ⊥ }
 {
     match falling_of(&work.bank, history, draft.calls.as_slice()) {
@@ -139,7 +139,7 @@ fn scheme_at(
 }
 
 /// The drafts of calls at hand.
-fn drafts_at(work: &Work, history: &History, opened: &[Opened]) -> Result<Vec<Draft>, Stop>
+pub fn drafts_at(work: &Work, history: &History, opened: &[Opened]) -> Result<Vec<Draft>, Stop>
     ensures memory { result ≡ Err Stop.OutOfSteps → ⊥ }
 {
     match drafts_of(&work.bank, history, opened) {

@@ -11,7 +11,7 @@ use crate::basis::Basis;
 use crate::draft::{Change, Step};
 use crate::instances::instance_of;
 use crate::known::{is_known, pairs_of};
-use crate::showing::shown_line;
+use crate::owed::line_at_hand;
 use crate::sizes::part_line;
 use crate::steps::becomes;
 use nq_bank::{TermId, ground, ground_name};
@@ -37,7 +37,7 @@ fn below(work: &mut Work, history: &History, t: TermId, u: TermId) -> Result<Ter
 }
 
 /// Makes that the measure falls where the pairs take it.
-fn falls_at(
+pub fn falls_at(
     work: &mut Work,
     history: &History,
     basis: &Basis,
@@ -79,7 +79,7 @@ pub fn add_literal(literals: &mut Vec<TermId>, literal: TermId) -> Result<(), St
 }
 
 /// Literals, and one more.
-fn with_literal(alloc: Global, literals: &[TermId], more: TermId) -> Result<Vec<TermId>, Stop>
+pub fn with_literal(alloc: Global, literals: &[TermId], more: TermId) -> Result<Vec<TermId>, Stop>
     ensures all { IfOk result (λ v. v.items ≡ literals.now ++ more ∷ []) }
     ensures memory { result ≡ Err Stop.OutOfSteps → ⊥ }
 {
@@ -112,7 +112,7 @@ fn further_line(
 {
     let falls = falls_at(work, history, basis, pairs)?;
     let goal = with_literal(work.bank.alloc(), literals.as_slice(), falls)?;
-    let found = shown_line(work, history, basis.arithmetic, goal.as_slice())?;
+    let found = line_at_hand(work, history, basis.arithmetic, goal.as_slice(), falls)?;
     match found {
         Some(line) => Ok(line),
         None => fall_line(work, history, literals, falls),
@@ -140,7 +140,7 @@ fn fall_line(
 }
 
 /// The line that the part which a variable becomes is smaller, where the measure is the variable's size and the tests say so.
-fn nest_line(
+pub fn nest_line(
     work: &mut Work,
     history: &History,
     basis: &Basis,

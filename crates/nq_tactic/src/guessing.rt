@@ -4,7 +4,7 @@ ghost use Rattle.nq_bank.specs.Content.{IsNamed, Stands};
 ghost use Rattle.nq_kernel.specs.Growing.{WorkStands};
 
 use nq_bank::{Bank, Node, Sym, TermId, ground};
-use nq_history::{EntryKind, History};
+use nq_history::{EntryKind, Hints, History};
 use nq_kernel::Work;
 use nq_rewrite::known_recognizer;
 use std::alloc::AllocError;
@@ -320,6 +320,18 @@ pub fn functions_of(
     }
     for place in 0..OPENED_LIMIT {
         add_opened(bank, history, &mut names, place)?;
+    }
+    Ok(names)
+}
+
+/// The functions that a goal and the term of an INDUCT hint call.
+pub fn called_in(bank: &Bank, goal: &[TermId], hints: &Hints) -> Result<Vec<Sym>, AllocError> {
+    let mut names = Vec::new(bank.alloc());
+    for t in goal {
+        add_small(bank, &mut names, *t)?;
+    }
+    if let Some(t) = hints.induct {
+        add_small(bank, &mut names, t)?;
     }
     Ok(names)
 }

@@ -296,7 +296,7 @@ fn push_known(known: &mut Vec<Prescription>, more: Prescription) -> Result<(), S
 }
 
 /// Keeps the number of the line that shows of what kind the calls of a function are.
-fn remember(work: &mut Work, history: &History, f: Sym, line: u64) -> Result<(), Stop>
+pub fn remember(work: &mut Work, history: &History, f: Sym, line: u64) -> Result<(), Stop>
     requires stands { WorkStands history.now work.old }
     requires function { IsNamed work.old.bank f }
     requires line { LineStands work.old line }

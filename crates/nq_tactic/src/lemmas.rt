@@ -8,6 +8,7 @@ ghost use Rattle.nq_lines.specs.Lines.{IsTermIn};
 ghost use Rattle.nq_search.specs.Goals.{CanSearch, IsGoalIn};
 ghost use Rattle.nq_search.specs.Searching.{IsFound};
 
+use crate::falls::learn_falls;
 use crate::kinds::learn_kinds;
 use crate::order::{INDUCTIONS, TURNS};
 use crate::tactic::Waterfall;
@@ -63,6 +64,24 @@ fn seek_rounds(
 {
     ready_histories();
     learn_kinds(work, history, hints, goal)?;
+    seek_after_falls(work, history, hints, goal)
+}
+
+/// The same, where it is known too how the measures of its functions fall.
+fn seek_after_falls(
+    work: &mut Work,
+    history: &History,
+    hints: &Hints,
+    goal: &[TermId],
+) -> Result<Option<u64>, Stop>
+    requires can { CanSearch history.now hints.now work.old }
+    requires goal { IsGoalIn history.now work.old goal.now }
+    ensures found { IfOk result (IsFound work.new (terms_at work.old.bank goal.now)) }
+    ensures grows { WorkGrows history.now work.old work.new }
+    ensures out { result ≡ Err Stop.OutOfSteps → work.new.counter.used ≡ work.new.counter.limit }
+{
+    ready_histories();
+    learn_falls(work, history, hints, goal)?;
     seek_widening(work, history, hints, goal)
 }
 

@@ -42,6 +42,9 @@ mod eliminating;
 mod guessing;
 mod kinds;
 
+// how measures fall
+mod falls;
+
 // lemmas
 mod lemmas;
 

@@ -15,6 +15,16 @@ use nq_simplify::{Simplified, make_basis, simplify_goal};
 /// How many literals may be rewritten in a row.
 const ROUNDS: u64 = 120;
 
+/// Into how many parts the steps are divided of which a simplification gets one.
+const SIMPLIFYING_PART: u64 = 3;
+
+/// The count of used steps at which a simplification that begins now ends.
+fn until_of(work: &Work) -> u64 {
+    work.counter
+        .used()
+        .saturating_add(work.counter.limit() / SIMPLIFYING_PART)
+}
+
 /// Simplifies a goal.
 pub fn simplified(
     work: &mut Work,
@@ -30,6 +40,7 @@ pub fn simplified(
 {
     own_terms();
     let basis = make_basis(work, history)?;
-    let mut rewriter = LiteralRewriter { hints };
+    let until = until_of(work);
+    let mut rewriter = LiteralRewriter { hints, until };
     simplify_goal(work, history, &basis, &mut rewriter, goal, ROUNDS)
 }

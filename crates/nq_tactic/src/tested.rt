@@ -50,7 +50,10 @@ fn line_at(
     ensures out { result ≡ Err Stop.OutOfSteps → work.new.counter.used ≡ work.new.counter.limit }
 {
     if is_told(&work.bank, rules, goal[at]) {
-        let mut rewriter = LiteralRewriter { hints };
+        let mut rewriter = LiteralRewriter {
+            hints,
+            until: u64::MAX,
+        };
         line_of_literal(work, history, &mut rewriter, goal, at)
     } else {
         Ok(None)

@@ -1,0 +1,9 @@
+use Rattle.nq_kernel.proofs.GrowingLemmas.{WorkGrows-trans}
+use Rattle.nq_lines.proofs.TermLemmas.{term_grown}
+use Rattle.nq_schemes.proofs.owed_ordinals.unknown_ordinal.Goals as goal
+
+pub ordinal_owed-requires-clause-measure : goal.ordinal_owed-requires-clause-measure
+ordinal_owed-requires-clause-measure c = term_grown c.args.history.now c.args.work.now c.known_ordinal.new.work c.args.measure c.requires.stands c.known_ordinal.ensures.grows c.requires.measure
+
+pub returns-in-None-clause-grows : goal.returns-in-None-clause-grows
+returns-in-None-clause-grows c = WorkGrows-trans c.args.history.now c.args.work.now c.known_ordinal.new.work c.ordinal_owed.new.work c.known_ordinal.ensures.grows c.ordinal_owed.ensures.grows
