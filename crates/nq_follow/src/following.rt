@@ -3,7 +3,7 @@ ghost use Rattle.std.specs.Prelude.{◌≡◌, ◌≤◌, ◌<◌, ◌+◌, OnOk
 ghost use Rattle.nq_logic.specs.Sizes.{depth_limit};
 ghost use Rattle.nq_kernel.specs.Growing.{WorkStands, WorkGrows};
 ghost use Rattle.nq_waterfall.specs.Trails.{TrailStands};
-ghost use Rattle.nq_waterfall.specs.Ready.{CanMove, IsGoalIn};
+ghost use Rattle.nq_waterfall.specs.Ready.{CanMove, IsGoalIn, IsPathIn};
 ghost use Rattle.nq_waterfall.specs.Turns.{IsLead};
 ghost use Rattle.nq_waterfall.specs.Solved.{TrailGoesOn, NextGoesOn};
 
@@ -45,6 +45,7 @@ pub fn follow<M: Mover>(
 ) -> Result<(), Stop>
     requires ready { CanMove history.now hints.now work.old }
     requires trail { TrailStands work.old.bank trail.old }
+    requires path_in { IsPathIn history.now work.old trail.old.path.items }
     requires goal { IsGoalIn history.now work.old goal.now }
     ensures trail { OnOk result (TrailGoesOn history.now hints.now work.new trail.old trail.new goal.now number) }
     ensures grows { WorkGrows history.now work.old work.new }
@@ -77,6 +78,7 @@ fn follow_nexts<M: Mover>(
 ) -> Result<(), Stop>
     requires ready { CanMove history.now hints.now work.old }
     requires trail { TrailStands work.old.bank trail.old }
+    requires path_in { IsPathIn history.now work.old trail.old.path.items }
     requires goal { IsGoalIn history.now work.old goal.now }
     requires depth { depth ≤ depth_limit }
     requires lead { IsLead M.is_way history.now hints.now work.old trail.old.path.items goal.now lead.now }
@@ -119,6 +121,7 @@ fn follow_next<M: Mover>(
 ) -> Result<(), Stop>
     requires ready { CanMove history.now hints.now work.old }
     requires trail { TrailStands work.old.bank trail.old }
+    requires path_in { IsPathIn history.now work.old trail.old.path.items }
     requires next { IsGoalIn history.now work.old next.now }
     requires depth { depth ≤ depth_limit }
     ensures trail { OnOk result (NextGoesOn history.now hints.now work.new trail.old trail.new number kind next.now) }

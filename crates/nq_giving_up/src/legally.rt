@@ -18,8 +18,8 @@ use nq_legal::{Legal, NoCloser};
 use nq_literal::LiteralRewriter;
 use std::alloc::{AllocError, Global};
 
-/// What is told of a lemma by simplification, SUBST, FERT, IRR and inductions by one case, in work that begins with no step used and
-/// may take so many. Of a lemma that needs another move nothing is told.
+/// What is told of a lemma by simplification, SUBST, FERT, GEN, IRR and inductions by one case, in work that begins with no step used
+/// and may take so many. Of a lemma that needs another move nothing is told.
 pub fn give_up(
     alloc: Global,
     bank: Bank,

@@ -16,7 +16,7 @@ use Rattle.nq_kernel.proofs.GrowingLemmas.{bank_grows}
 use Rattle.nq_lines.specs.Lines.{IsTermIn}
 use Rattle.nq_waterfall.specs.Ready.{IsGoalIn}
 use Rattle.nq_tracer.specs.declared.nexts.Nexts.{Nexts}
-use Rattle.nq_tracer.specs.Leads.{IsInduction, IsInductionBy}
+use Rattle.nq_tracer.specs.Leads.{IsInductionBy}
 
 pub literals_stand : (history : List Entry) (work : Work) (goal : List TermId) → IsGoalIn history work goal → All (Stands work.bank) goal
 literals_stand history work goal k = λ i d below. (k i d below).stands
@@ -32,14 +32,6 @@ module _ (history : List Entry) (old : Work) (bank : Content) (later : Work) (st
         subst (λ (w : Work). IsInductionBy (events_at w.bank history) calls (terms_at w.bank goal) (term_at w.bank n.base) (term_at w.bank n.step)) (sym same)
         (subst (λ (es : History). IsInductionBy es calls (terms_at bank goal) (term_at bank n.base) (term_at bank n.step)) (sym (events_at-grown old.bank bank grows history stands.history.entries))
         (subst (λ (ts : List Term). IsInductionBy (events_at old.bank history) calls ts (term_at bank n.base) (term_at bank n.step)) (sym (terms_at-grown old.bank bank goal grows (literals_stand history old goal goal_in))) i))
-
-    pub on_later : (found : Option Nexts) → IfSome found (λ n. IsInduction (events_at old.bank history) (terms_at old.bank goal) (term_at bank n.base) (term_at bank n.step))
-        → IfSome found (λ n. IsInduction (events_at later.bank history) (terms_at later.bank goal) (term_at later.bank n.base) (term_at later.bank n.step))
-    on_later None k = tt
-    on_later (Some n) k =
-        subst (λ (w : Work). IsInduction (events_at w.bank history) (terms_at w.bank goal) (term_at w.bank n.base) (term_at w.bank n.step)) (sym same)
-        (subst (λ (es : History). IsInduction es (terms_at bank goal) (term_at bank n.base) (term_at bank n.step)) (sym (events_at-grown old.bank bank grows history stands.history.entries))
-        (subst (λ (ts : List Term). IsInduction (events_at old.bank history) ts (term_at bank n.base) (term_at bank n.step)) (sym (terms_at-grown old.bank bank goal grows (literals_stand history old goal goal_in))) k))
 
     pub call_later : (call : TermId) (found : Option Nexts) → IsTermIn history old call → IfSome found (λ n. IsInductionBy (events_at old.bank history) (term_at old.bank call ∷ []) (terms_at old.bank goal) (term_at bank n.base) (term_at bank n.step))
         → IfSome found (λ n. IsInductionBy (events_at later.bank history) (term_at later.bank call ∷ []) (terms_at later.bank goal) (term_at later.bank n.base) (term_at later.bank n.step))

@@ -1,3 +1,4 @@
 pub mod NameLemmas
 pub mod GoalLemmas
 pub mod CountedLemmas
+pub mod SuggestingLemmas

@@ -1,6 +1,9 @@
 //! An inductor of the legal mover: inductions by one case, with the measure of the function that a call calls, and the first of the
-//! recursive calls in its body.
+//! recursive calls in its body. Each call of the goal that suggests an induction is tried in turn.
 #![tactic(auto)]
+
+// the calls that suggest inductions
+mod suggesting;
 
 // what is found in the bank
 mod finding;

@@ -21,7 +21,7 @@ use Rattle.nq_waterfall.specs.declared.trail.Ancestor.{Ancestor}
 use Rattle.nq_waterfall.specs.Trails.{above_at}
 use Rattle.nq_waterfall.specs.Turns.{SpentAt}
 use Rattle.nq_stuck.specs.Left.{IsLeftToGroups}
-use Rattle.nq_legal.specs.Candidates.{HasNoneOfThree}
+use Rattle.nq_legal.specs.Candidates.{HasNoneOfFour}
 use Rattle.nq_legal.specs.Leaving.{IsFreeAt, IsHintedAt, IsStuck, IsToHint, IsToInduct}
 
 free_none : (o : Option Term) (gs : List Clause) → o ≡ None → hinted_term o gs ≡ []
@@ -138,19 +138,19 @@ not_told false P e k p = absurd (never (k.1 p))
     never e = absurd cc
 
 -- a goal that is left to IRR and induction is stuck where IRR has no candidate
-pub stuck_if : (bank : Content) (history : List Entry) (hints : Hints) (goal : List TermId) (r : Result Bool AllocError) → (IsFalse (events_at bank history) (terms_at bank goal) → ⊥) → HasNoneOfThree (events_at bank history) (terms_at bank goal) →
+pub stuck_if : (bank : Content) (history : List Entry) (hints : Hints) (goal : List TermId) (r : Result Bool AllocError) → (IsFalse (events_at bank history) (terms_at bank goal) → ⊥) → HasNoneOfFour (events_at bank history) (hints_at bank hints) (terms_at bank goal) →
     IfOk r (λ b. b ≡ true → IsLeftToGroups (events_at bank history) (hints_at bank hints) (terms_at bank goal)) → IfOk r (λ b. b ≡ true → IsStuck bank history hints goal)
-stuck_if bank history hints goal (Ok b) not_false three k = λ e.
+stuck_if bank history hints goal (Ok b) not_false four k = λ e.
     let groups : IsLeftToGroups (events_at bank history) (hints_at bank hints) (terms_at bank goal) = k e in
     record {
       normal = groups.normal;
       not_false = not_false;
       none = record {
-        no_substituting = groups.none.no_substituting;
+        no_substituting = four.no_substituting;
         no_eliminating = groups.none.no_eliminating;
-        no_fertilizing = groups.none.no_fertilizing;
-        no_generalizing = groups.none.no_generalizing;
-        no_dropping = three.no_dropping;
+        no_fertilizing = four.no_fertilizing;
+        no_generalizing = four.no_generalizing;
+        no_dropping = four.no_dropping;
       };
     }
-stuck_if bank history hints goal (Err e) not_false three k = k
+stuck_if bank history hints goal (Err e) not_false four k = k

@@ -3,6 +3,8 @@ pub mod FormLemmas
 pub mod PlainLemmas
 pub mod LeavingLemmas
 pub mod MovingLemmas
+pub mod GeneralizingLemmas
+pub mod ThinningLemmas
 pub mod SimplifyingLemmas
 pub mod InductingLemmas
 pub mod ClosingLemmas

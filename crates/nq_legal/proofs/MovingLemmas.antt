@@ -1,4 +1,4 @@
--- Moves of SUBST, FERT and IRR.
+-- Moves of SUBST, FERT, GEN and IRR.
 use Rattle.std.proofs.Common.{◌≡◌, ◌<◌, ◌≤◌, ◌+◌, ℕ, zero, suc, List, [], ◌∷◌, ◌++◌, map, get_or, length, take, Option, Some, None, refl, sym, ap, ap₂, ◌∙◌, subst, arith}
 use Rattle.std.proofs.lemmas.List.{take_all}
 use Rattle.std.specs.Prelude.{All, IfOk, MatchOption, Result, Ok, Err, Vec, slice_get}
@@ -28,6 +28,7 @@ use Rattle.nq_moves.specs.OfTable.{IsOfTable}
 use Rattle.nq_moves.specs.Ways as moves
 use Rattle.nq_moves.proofs.WayLemmas.{way_lasts}
 use Rattle.nq_waterfall.specs.Kinds.{goal_kind}
+use Rattle.nq_waterfall.specs.declared.trail.Ancestor.{Ancestor}
 use Rattle.nq_waterfall.specs.Ready.{CanMove, IsGoalIn}
 use Rattle.nq_waterfall.specs.Trails.{above_at, goals_at, AncestorStands}
 use Rattle.nq_bank.proofs.NodesLemmas.{All-head, All-tail}
@@ -36,8 +37,8 @@ use Rattle.nq_waterfall.proofs.SolvingLemmas.{map_pushed, take_next}
 use Rattle.nq_waterfall.specs.declared.mover.Lead.{Lead}
 use Rattle.nq_legal.specs.declared.way.Way.{Way}
 use Rattle.nq_legal.specs.declared.way.Way.TheVariants as way
-use Rattle.nq_legal.specs.Candidates.{HasNoneOfThree}
-use Rattle.nq_legal.specs.Legal.{AreCopies, IsLegal, LeadsAnywhere, NormalAt}
+use Rattle.nq_waterfall.specs.Turns.{IsLead, MoveAt}
+use Rattle.nq_legal.specs.Legal.{AreCopies, IsLegal, IsWay, LeadsAnywhere, NormalAt}
 
 terms_of : (bank : Content) (goals : List (Vec TermId Global)) → goals_at bank goals ≡ map (terms_at bank) (map (λ (g : Vec TermId Global). g.items) goals)
 terms_of bank [] = refl
@@ -72,17 +73,24 @@ copies_inside P (c ∷ copies) (g ∷ goals) e all =
     (subst P (sym (heads c.items g.items (map (λ (v : Vec TermId Global). v.items) copies) (map (λ (v : Vec TermId Global). v.items) goals) e)) (All-head (λ goal. P goal.items) g goals all))
     (copies_inside P copies goals (tails c.items g.items (map (λ (v : Vec TermId Global). v.items) copies) (map (λ (v : Vec TermId Global). v.items) goals) e) (All-tail (λ goal. P goal.items) g goals all))
 
--- a move that can be gone back is legal, whatever stands above
+-- a move that can be gone back is legal below these goals
+pub moved_below : (history : List Entry) (hints : Hints) (work : Work) (path : List Ancestor) (goal : List TermId) (by : MoveKind) (moved : Moved) (nexts : Vec (Vec TermId Global) Global) → WorkStands history work → IsGoalIn history work goal →
+    moves.IsMove history work goal moved → MoveAt work.bank history hints path by goal moved.children.items → AreCopies nexts.items moved.children.items →
+    IsLead IsWay history hints work path goal (record { kind = by; nexts = nexts; way = way.Moved moved })
+moved_below history hints work path goal by moved nexts stands goal_in m leads same =
+    record {
+      move =
+          subst (λ (gs : List Clause). IsMove (events_at work.bank history) (hints_at work.bank hints) (above_at work.bank path) (goal_kind by) (terms_at work.bank goal) gs) (sym (same_goals work.bank nexts.items moved.children.items same)) leads;
+      nexts_in = copies_inside (IsGoalIn history work) nexts.items moved.children.items same m.children_in;
+      way_back = λ later grows. (way_lasts history work later stands grows goal goal_in moved m.way, same);
+    }
+
+-- and so is one that is legal whatever stands above
 pub moved_legal : (history : List Entry) (hints : Hints) (work : Work) (goal : List TermId) (by : MoveKind) (moved : Moved) (nexts : Vec (Vec TermId Global) Global) → WorkStands history work → IsGoalIn history work goal →
     moves.IsMove history work goal moved → LeadsAnywhere work.bank history hints by goal moved.children.items → AreCopies nexts.items moved.children.items →
     IsLegal history hints work goal (record { kind = by; nexts = nexts; way = way.Moved moved })
 moved_legal history hints work goal by moved nexts stands goal_in m leads same =
-    λ path. record {
-      move =
-          subst (λ (gs : List Clause). IsMove (events_at work.bank history) (hints_at work.bank hints) (above_at work.bank path) (goal_kind by) (terms_at work.bank goal) gs) (sym (same_goals work.bank nexts.items moved.children.items same)) (leads path);
-      nexts_in = copies_inside (IsGoalIn history work) nexts.items moved.children.items same m.children_in;
-      way_back = λ later grows. (way_lasts history work later stands grows goal goal_in moved m.way, same);
-    }
+    λ path. moved_below history hints work path goal by moved nexts stands goal_in m (leads path) same
 
 nothing_stands : (bank : Content) → All (AncestorStands bank) []
 nothing_stands bank = λ k d below. absurd (omega (arith, below))
@@ -138,10 +146,15 @@ copied_more goals copies i item copy at same h =
 pub copied_whole : (goals copies : List (Vec TermId Global)) (i : ℕ) → length goals ≤ i → AreCopies copies (take i goals) → AreCopies copies goals
 copied_whole goals copies i past h = h ∙ ap (map (λ (g : Vec TermId Global). g.items)) (take_all i goals past)
 
--- SUBST and FERT have no candidate, and so has IRR where it finds none
-pub none_of_three : (bank : Content) (history : List Entry) (hints : Hints) (work : Work) (goal : List TermId) (r : Result (Option (Lead Way)) Stop) → substitutions_of (terms_at bank goal) ≡ [] → fertilizings_of (terms_at bank goal) ≡ [] →
-    IfOk r (λ found. MatchOption found (droppings_of (events_at bank history) (terms_at bank goal) ≡ []) (IsLegal history hints work goal)) →
-    IfOk r (λ found. MatchOption found (HasNoneOfThree (events_at bank history) (terms_at bank goal)) (IsLegal history hints work goal))
-none_of_three bank history hints work goal (Ok None) s f d = record { no_substituting = s; no_fertilizing = f; no_dropping = d }
-none_of_three bank history hints work goal (Ok (Some lead)) s f d = d
-none_of_three bank history hints work goal (Err e) s f d = d
+module _ (history : List Entry) (hints : Hints) (work : Work) (path : List Ancestor) (goal : List TermId) where
+  -- a legal move is legal below these goals
+  pub legal_below : (r : Result (Option (Lead Way)) Stop) (N : Type 0) → IfOk r (λ found. MatchOption found N (IsLegal history hints work goal)) → IfOk r (λ found. MatchOption found N (IsLead IsWay history hints work path goal))
+  legal_below (Ok None) N k = k
+  legal_below (Ok (Some lead)) N k = k path
+  legal_below (Err e) N k = k
+
+  -- where a move finds none, no earlier one finding any
+  pub none_then : (r : Result (Option (Lead Way)) Stop) (N M : Type 0) → (N → M) → IfOk r (λ found. MatchOption found N (IsLead IsWay history hints work path goal)) → IfOk r (λ found. MatchOption found M (IsLead IsWay history hints work path goal))
+  none_then (Ok None) N M on k = on k
+  none_then (Ok (Some lead)) N M on k = k
+  none_then (Err e) N M on k = k

@@ -3,14 +3,15 @@ ghost use Rattle.std.specs.Prelude.{◌≡◌, All, IfOk, IfSome, Err};
 ghost use Rattle.nq_bank.specs.Content.{terms_at};
 ghost use Rattle.nq_history.specs.Events.{events_at};
 ghost use Rattle.nq_kernel.specs.Growing.{WorkGrows};
-ghost use Rattle.nq_waterfall.specs.Ready.{CanMove, IsGoalIn};
+ghost use Rattle.nq_waterfall.specs.Ready.{CanMove, IsGoalIn, IsPathIn};
 ghost use Rattle.nq_waterfall.specs.Trails.{AncestorStands};
 ghost use Rattle.nq_waterfall.specs.Turns.{IsTurn};
 ghost use Rattle.nq_lines.specs.Lines.{LineHasOnly};
 ghost use Rattle.nq_legal.specs.Forms.{IsForm};
 ghost use Rattle.nq_legal.specs.Leaving.{IsStuck};
 ghost use Rattle.nq_legal.specs.Legal.{IsWay};
-ghost use Rattle.nq_legal.specs.Candidates.{HasNoneOfThree};
+ghost use Rattle.nq_event.specs.EventsAt.{hints_at};
+ghost use Rattle.nq_legal.specs.Candidates.{HasNoneOfFour};
 ghost use Rattle.nq_legal.specs.Turning.{turn_of};
 ghost use Rattle.nq_legal.specs.declared.form.Form.TheVariants.{Normal};
 
@@ -83,7 +84,7 @@ fn lead_stuck<I: Inductor>(
     }
 }
 
-/// Leads a goal on, in which SUBST, FERT and IRR have no candidate.
+/// Leads a goal on, in which SUBST, FERT, GEN and IRR have no candidate.
 fn lead_unmoved<I: Inductor>(
     work: &mut Work,
     inductor: &mut I,
@@ -96,7 +97,7 @@ fn lead_unmoved<I: Inductor>(
     requires path { All (AncestorStands work.old.bank) path.now }
     requires goal { IsGoalIn history.now work.old goal.now }
     requires form { IsForm work.old.bank history.now hints.now path.now goal.now Normal }
-    requires none { HasNoneOfThree (events_at work.old.bank history.now) (terms_at work.old.bank goal.now) }
+    requires none { HasNoneOfFour (events_at work.old.bank history.now) (hints_at work.old.bank hints.now) (terms_at work.old.bank goal.now) }
     ensures turn { IfOk result (IsTurn IsWay history.now hints.now work.new path.now goal.now) }
     ensures grows { WorkGrows history.now work.old work.new }
     ensures out { result ≡ Err Stop.OutOfSteps → work.new.counter.used ≡ work.new.counter.limit }
@@ -119,6 +120,7 @@ fn lead_normal<I: Inductor>(
 ) -> Result<Turn<Way>, Stop>
     requires ready { CanMove history.now hints.now work.old }
     requires path { All (AncestorStands work.old.bank) path.now }
+    requires path_in { IsPathIn history.now work.old path.now }
     requires goal { IsGoalIn history.now work.old goal.now }
     requires form { IsForm work.old.bank history.now hints.now path.now goal.now Normal }
     ensures turn { IfOk result (IsTurn IsWay history.now hints.now work.new path.now goal.now) }
@@ -126,7 +128,7 @@ fn lead_normal<I: Inductor>(
     ensures out { result ≡ Err Stop.OutOfSteps → work.new.counter.used ≡ work.new.counter.limit }
 {
     holding();
-    match move_on(work, history, hints, goal)? {
+    match move_on(work, history, hints, path, goal)? {
         Some(lead) => Ok(Turn::Led(lead)),
         None => lead_unmoved(work, inductor, history, hints, path, goal),
     }
@@ -187,6 +189,7 @@ impl<C: Closer, R: Rewriter, I: Inductor> Legal<C, R, I> {
     ) -> Result<Turn<Way>, Stop>
         requires ready { CanMove history.now hints.now work.old }
         requires path { All (AncestorStands work.old.bank) path.now }
+        requires path_in { IsPathIn history.now work.old path.now }
         requires goal { IsGoalIn history.now work.old goal.now }
         requires form { IsForm work.old.bank history.now hints.now path.now goal.now form }
         ensures turn { IfOk result (IsTurn IsWay history.now hints.now work.new path.now goal.now) }
@@ -211,6 +214,7 @@ impl<C: Closer, R: Rewriter, I: Inductor> Legal<C, R, I> {
     ) -> Result<Turn<Way>, Stop>
         requires ready { CanMove history.now hints.now work.old }
         requires path { All (AncestorStands work.old.bank) path.now }
+        requires path_in { IsPathIn history.now work.old path.now }
         requires goal { IsGoalIn history.now work.old goal.now }
         ensures turn { IfOk result (IsTurn IsWay history.now hints.now work.new path.now goal.now) }
         ensures grows { WorkGrows history.now work.old work.new }

@@ -1,5 +1,5 @@
-//! Goals that SUBST, FERT or IRR leads on.
-ghost use Rattle.std.specs.Prelude.{◌≡◌, [], IfOk, MatchOption, Err};
+//! Goals that SUBST, FERT, GEN or IRR leads on.
+ghost use Rattle.std.specs.Prelude.{◌≡◌, [], All, IfOk, MatchOption, Err};
 ghost use Rattle.nq_bank.specs.Content.{terms_at};
 ghost use Rattle.nq_history.specs.Events.{events_at};
 ghost use Rattle.nq_goals.specs.Dropping.{droppings_of};
@@ -7,21 +7,25 @@ ghost use Rattle.nq_goals.specs.Fertilizing.{fertilizings_of};
 ghost use Rattle.nq_goals.specs.Substituting.{substitutions_of};
 ghost use Rattle.nq_kernel.specs.Growing.{WorkStands, WorkGrows};
 ghost use Rattle.nq_moves.specs.Ways as moves;
-ghost use Rattle.nq_waterfall.specs.Ready.{CanMove, IsGoalIn};
-ghost use Rattle.nq_legal.specs.Legal.{AreCopies, IsLegal, LeadsAnywhere, NormalAt};
-ghost use Rattle.nq_legal.specs.Candidates.{HasNoneOfThree};
+ghost use Rattle.nq_event.specs.EventsAt.{hints_at};
+ghost use Rattle.nq_waterfall.specs.Ready.{CanMove, IsGoalIn, IsPathIn};
+ghost use Rattle.nq_waterfall.specs.Trails.{AncestorStands};
+ghost use Rattle.nq_waterfall.specs.Turns.{IsLead};
+ghost use Rattle.nq_legal.specs.Legal.{AreCopies, IsLegal, IsWay, LeadsAnywhere, NormalAt};
+ghost use Rattle.nq_legal.specs.Candidates.{HasNoneLess, HasNoneOfFour};
 
+use crate::generalizing::generalized;
 use crate::way::Way;
 use nq_bank::TermId;
 use nq_history::{Hints, History};
 use nq_kernel::{MoveKind, Stop, Work};
 use nq_moves::{Moved, fertilize_move, irrelevant_move, substitute_move};
-use nq_waterfall::Lead;
 use nq_waterfall::laws::holding;
+use nq_waterfall::{Ancestor, Lead};
 use std::alloc::{AllocError, Global};
 
 /// A copy of some goals.
-fn copied(alloc: Global, goals: &[Vec<TermId>]) -> Result<Vec<Vec<TermId>>, AllocError>
+pub fn copied(alloc: Global, goals: &[Vec<TermId>]) -> Result<Vec<Vec<TermId>>, AllocError>
     ensures { IfOk result (λ v. AreCopies v.items goals.now) }
 {
     let mut copies = Vec::new(alloc);
@@ -128,45 +132,75 @@ fn dropped(
     }
 }
 
-/// FERT or IRR, where the goal has a candidate.
+/// GEN or IRR, where the goal has a candidate.
+fn lessened(
+    work: &mut Work,
+    history: &History,
+    hints: &Hints,
+    path: &[Ancestor],
+    goal: &[TermId],
+) -> Result<Option<Lead<Way>>, Stop>
+    requires ready { CanMove history.now hints.now work.old }
+    requires path { All (AncestorStands work.old.bank) path.now }
+    requires path_in { IsPathIn history.now work.old path.now }
+    requires goal { IsGoalIn history.now work.old goal.now }
+    requires normal { NormalAt work.old.bank history.now hints.now goal.now }
+    ensures legal { IfOk result (λ found. MatchOption found (HasNoneLess (events_at work.new.bank history.now) (hints_at work.new.bank hints.now) (terms_at work.new.bank goal.now)) (IsLead IsWay history.now hints.now work.new path.now goal.now)) }
+    ensures grows { WorkGrows history.now work.old work.new }
+    ensures out { result ≡ Err Stop.OutOfSteps → work.new.counter.used ≡ work.new.counter.limit }
+{
+    holding();
+    match generalized(work, history, hints, path, goal)? {
+        Some(lead) => Ok(Some(lead)),
+        None => dropped(work, history, hints, goal),
+    }
+}
+
+/// FERT, GEN or IRR, where the goal has a candidate.
 fn changed(
     work: &mut Work,
     history: &History,
     hints: &Hints,
+    path: &[Ancestor],
     goal: &[TermId],
 ) -> Result<Option<Lead<Way>>, Stop>
     requires ready { CanMove history.now hints.now work.old }
+    requires path { All (AncestorStands work.old.bank) path.now }
+    requires path_in { IsPathIn history.now work.old path.now }
     requires goal { IsGoalIn history.now work.old goal.now }
     requires normal { NormalAt work.old.bank history.now hints.now goal.now }
     requires none { substitutions_of (terms_at work.old.bank goal.now) ≡ [] }
-    ensures legal { IfOk result (λ found. MatchOption found (HasNoneOfThree (events_at work.new.bank history.now) (terms_at work.new.bank goal.now)) (IsLegal history.now hints.now work.new goal.now)) }
+    ensures legal { IfOk result (λ found. MatchOption found (HasNoneOfFour (events_at work.new.bank history.now) (hints_at work.new.bank hints.now) (terms_at work.new.bank goal.now)) (IsLead IsWay history.now hints.now work.new path.now goal.now)) }
     ensures grows { WorkGrows history.now work.old work.new }
     ensures out { result ≡ Err Stop.OutOfSteps → work.new.counter.used ≡ work.new.counter.limit }
 {
     holding();
     match fertilized(work, history, hints, goal)? {
         Some(lead) => Ok(Some(lead)),
-        None => dropped(work, history, hints, goal),
+        None => lessened(work, history, hints, path, goal),
     }
 }
 
-/// SUBST, FERT or IRR, where the goal has a candidate.
+/// SUBST, FERT, GEN or IRR, where the goal has a candidate.
 pub fn move_on(
     work: &mut Work,
     history: &History,
     hints: &Hints,
+    path: &[Ancestor],
     goal: &[TermId],
 ) -> Result<Option<Lead<Way>>, Stop>
     requires ready { CanMove history.now hints.now work.old }
+    requires path { All (AncestorStands work.old.bank) path.now }
+    requires path_in { IsPathIn history.now work.old path.now }
     requires goal { IsGoalIn history.now work.old goal.now }
     requires normal { NormalAt work.old.bank history.now hints.now goal.now }
-    ensures legal { IfOk result (λ found. MatchOption found (HasNoneOfThree (events_at work.new.bank history.now) (terms_at work.new.bank goal.now)) (IsLegal history.now hints.now work.new goal.now)) }
+    ensures legal { IfOk result (λ found. MatchOption found (HasNoneOfFour (events_at work.new.bank history.now) (hints_at work.new.bank hints.now) (terms_at work.new.bank goal.now)) (IsLead IsWay history.now hints.now work.new path.now goal.now)) }
     ensures grows { WorkGrows history.now work.old work.new }
     ensures out { result ≡ Err Stop.OutOfSteps → work.new.counter.used ≡ work.new.counter.limit }
 {
     holding();
     match substituted(work, history, hints, goal)? {
         Some(lead) => Ok(Some(lead)),
-        None => changed(work, history, hints, goal),
+        None => changed(work, history, hints, path, goal),
     }
 }

@@ -12,6 +12,7 @@ ghost use Rattle.nq_legal.specs.Legal.{IsLegal};
 ghost use Rattle.nq_legal.specs.Plain.{ArePlain};
 
 use crate::plain::are_plain;
+use crate::thinning::thinned;
 use crate::way::Way;
 use nq_bank::TermId;
 use nq_history::{Hints, History};
@@ -104,5 +105,6 @@ pub fn simplify<R: Rewriter>(
     own_terms();
     holding();
     let simplified = simplified(work, history, rewriter, goal)?;
-    lead_if_plain(work, history, hints, goal, simplified)
+    let thin = thinned(work, history, goal, simplified)?;
+    lead_if_plain(work, history, hints, goal, thin)
 }

@@ -85,6 +85,7 @@ pub fn rewrite_by(
         relieved: Vec::new(alloc),
         opening: Vec::new(alloc),
         guard: None,
+        asked: false,
         mark: 0,
     };
     rewrite_term(work, history, &way, &mut search, assumed, 0, t)

@@ -34,11 +34,17 @@ mod comparing;
 // single steps
 mod steps;
 
+// what is asked of an object: a part or its kind
+mod asking;
+mod questions;
+mod telling;
+
 // the recursion: what stands within a term, then the term itself by assumptions and openings, and by rules
 mod opening;
 mod outside;
 mod reducing;
 mod rewriting;
+mod selecting;
 mod testing;
 
 // the rewriter

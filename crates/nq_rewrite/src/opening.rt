@@ -8,6 +8,7 @@ ghost use Rattle.nq_reduce.specs.Rewriting.{CanRewrite, IsRewritten};
 use crate::outside::rewrite_on;
 use crate::rewriting::rewrite_term;
 use crate::search::Search;
+use crate::selecting::rewrite_selection;
 use crate::way::{Way, is_opened, keeps, opening_more, recursive_function};
 use nq_bank::{Sym, TermId};
 use nq_history::History;
@@ -34,7 +35,7 @@ pub fn rewrite_by_opening(
     if is_opened(&work.bank, history, way, search, assumed, t) {
         rewrite_opening(work, history, way, search, assumed, depth, t)
     } else {
-        Ok(unchanged(t))
+        rewrite_selection(work, history, way, search, assumed, depth, t)
     }
 }
 
@@ -82,7 +83,7 @@ fn rewrite_body(
     ensures grows { WorkGrows history.now work.old work.new }
     ensures out { result ≡ Err Stop.OutOfSteps → work.new.counter.used ≡ work.new.counter.limit }
 {
-    let within = opening_more(way, &work.bank, f, t)?;
+    let within = opening_more(way, &work.bank, f, t, false)?;
     let body = rewrite_term(
         work,
         history,

@@ -8,6 +8,7 @@ ghost use Rattle.nq_reduce.specs.Rewriting.{CanRewrite, IsRewritten};
 use crate::opening::rewrite_opening;
 use crate::outside::rewrite_outside;
 use crate::search::Search;
+use crate::selecting::rewrite_asked;
 use crate::testing::rewrite_if;
 use crate::way::{Way, is_settled, opens_first, settle};
 use nq_bank::TermId;
@@ -86,13 +87,13 @@ fn rewrite_inside(
 {
     match if_parts_of(work, history, t) {
         Some(parts) => rewrite_if(work, history, way, search, assumed, depth, t, parts),
-        None => rewrite_parts(work, history, way, search, assumed, depth, t),
+        None => rewrite_asked(work, history, way, search, assumed, depth, t),
     }
 }
 
 /// Rewrites the arguments of a call, or what comes of it where it is a connective.
 #[cycle(rewriting)]
-fn rewrite_parts(
+pub fn rewrite_parts(
     work: &mut Work,
     history: &History,
     way: &Way<'_>,

@@ -22,6 +22,9 @@ pub const RELIEVED: u64 = 0xA54F_F53A_5F1D_36F1;
 /// The number of the marks of what is within the body of a function.
 pub const BODY: u64 = 0x510E_527F_ADE6_82D1;
 
+/// The number of the marks of what is asked of calls.
+pub const QUESTION: u64 = 0x9B05_688C_2B3E_6C1F;
+
 /// How many nodes a test of a body may have beside those of the call.
 const TEST_NODES: u64 = 4;
 

@@ -15,9 +15,9 @@ use Rattle.nq_logic.proofs.Clauses.{instance_law}
 use Rattle.nq_proof.proofs.CalledTerms.{CallOver, calls_over}
 use Rattle.nq_events.specs.Inductions.{arguments_of, measured, names_of}
 use Rattle.nq_goals.specs.Inducting.{GoesBy, all_of}
-use Rattle.nq_tracer.specs.Falls.{fall_of, FallsUnder, Falls}
+use Rattle.nq_falls.specs.Falls.{fall_of, FallsUnder, Falls}
 use Rattle.nq_tracer.specs.Cases.{changes_of, image_of, case_of, IsSuggesting, CallsGiveCases}
-use Rattle.nq_tracer.proofs.FallLemmas.{matched_over, instance_over, denied_over}
+use Rattle.nq_falls.proofs.TestLemmas.{matched_over, instance_over, denied_over}
 use Rattle.nq_tracer.proofs.ChangeLemmas.{becomes_image, follows, variables_among, keys_are, distinct_names_told, has_among}
 use Rattle.nq_tracer.proofs.AndLemmas.{gathered, parts_within}
 

@@ -9,12 +9,10 @@ use Rattle.nq_logic.proofs.Lists.{each_at, each_mono}
 use Rattle.nq_logic.proofs.Additions.{growth_law, takes_grows, all_symbols_grow}
 use Rattle.nq_proof.specs.Rows.{opening}
 use Rattle.nq_proof.proofs.KeptSymbols.{definitions_over}
-use Rattle.nq_arith.specs.Nests.{NestIsSmaller}
-use Rattle.nq_arith.specs.NamedLaws.{SizeIsOrdinal}
 use Rattle.nq_kernel.proofs.ReadyLaws.{closed_law}
-use Rattle.nq_tracer.specs.Falls.{FallsUnder, Falls, DefinitionsFall}
+use Rattle.nq_falls.specs.Falls.{FallsByMeasure, FallsUnder, Falls, GroundDefinitionsFall}
+use Rattle.nq_tracer.specs.Falls.{DefinitionsFall}
 use Rattle.nq_tracer.proofs.FallLemmas.{falls_from}
-use Rattle.nq_tracer.proofs.GroundFalls.{ground_falls, FallsUnlessLeftOut}
 
 -- what falls with no event falls in every history
 lasting : (h : History) (d : Definition) (m : Term) → Falls [] d m → Falls h d m
@@ -31,10 +29,10 @@ split_among P x [] ys f g m = g m
 split_among P x (z ∷ xs) ys f g (inl e) = f (inl e)
 split_among P x (z ∷ xs) ys f g (inr m) = split_among P x xs ys (λ i. f (inr i)) g m
 
-pub definitions_fall_law : NestIsSmaller → SizeIsOrdinal → DefinitionsFall
-definitions_fall_law smaller ordinal h d m ready among is kept =
+pub definitions_fall_law : GroundDefinitionsFall → DefinitionsFall
+definitions_fall_law ground h d m ready among is =
     let body = (each_at (λ (d : Definition). Each (IsTerm (symbols_of h)) (opening d)) d (ground_definitions ++ events_definitions h) (definitions_over h (closed_law h ready)) among).0.1 in
     split_among (Falls h d m) d ground_definitions (events_definitions h)
-    (λ i. lasting h d m (each_at FallsUnlessLeftOut d ground_definitions (ground_falls smaller ordinal) i m is kept))
+    (λ i. lasting h d m (each_at FallsByMeasure d ground_definitions ground i m is))
     (λ i. each_at (λ (d : Definition). (m : Term) → d.measure ≡ Some m → IsTerm (symbols_of h) d.body → Falls h d m) d (events_definitions h) (falls_from [] h ready) i m is body)
     among

@@ -6,7 +6,6 @@ use Rattle.nq_logic.specs.Words.{call1}
 use Rattle.nq_logic.specs.Formulas.{clause}
 use Rattle.nq_logic.specs.Histories.{History, Definition, events_definitions}
 use Rattle.nq_logic.specs.Ground.{symbols_of, ground_definitions, ground_history, all_events}
-use Rattle.nq_logic.specs.Names.{has_name}
 use Rattle.nq_logic.specs.Admissible.{Call, calls_of, matched}
 use Rattle.nq_logic.specs.Derivations.{Derivable}
 use Rattle.nq_logic.proofs.Symbols.{ordinalp_symbol}
@@ -20,10 +19,11 @@ use Rattle.nq_goals.specs.Paths.{Above, inducted_goals, inductions}
 use Rattle.nq_goals.specs.Replacing.{parts_in_all}
 use Rattle.nq_goals.specs.Inducting.{IsScheme, suggesting_among, suggesting_in, scheme_calls, hinted_or, hinted_term, base_case, step_case, claim_of}
 use Rattle.nq_goals.specs.Moves.{IsMove, IsSubsumed, induction_limit, inducts, no_candidate}
-use Rattle.nq_tracer.specs.Falls.{Falls, left_out, DefinitionsFall}
+use Rattle.nq_falls.specs.Falls.{Falls}
+use Rattle.nq_tracer.specs.Falls.{DefinitionsFall}
 use Rattle.nq_tracer.specs.Cases.{IsSuggesting, CallsGiveCases, case_of}
 use Rattle.nq_tracer.specs.Leads.{IsInduction, IsInductionBy, IsInductionOf, IsDue}
-use Rattle.nq_tracer.proofs.FallLemmas.{matched_over, instance_over}
+use Rattle.nq_falls.proofs.TestLemmas.{matched_over, instance_over}
 
 -- ---- the definition is one of the history, or of the ground history
 
@@ -57,9 +57,9 @@ suggesting_found h t (u ∷ ts) (inr m) e = by_test (suggests_induction h u) (su
 pub induction_in : (h : History) (t : Term) (goal : List Term) (base step : Term) → IsAmong t (parts_in_all goal) → IsInductionOf h t goal base step → IsInduction h goal base step
 induction_in h t goal base step part i = i.by (suggesting_in h goal) (suggesting_found h t (parts_in_all goal) part i.suggests)
 
-module _ (fall : DefinitionsFall) (give : CallsGiveCases) (h : History) (d : Definition) (m t : Term) (goal : List Term) (ready : IsReady h) (suggesting : IsSuggesting h d m t) (kept : has_name d.function left_out ≡ false) where
+module _ (fall : DefinitionsFall) (give : CallsGiveCases) (h : History) (d : Definition) (m t : Term) (goal : List Term) (ready : IsReady h) (suggesting : IsSuggesting h d m t) where
   falls : Falls h d m
-  falls = fall h d m ready (opened_among h t d suggesting.opened) suggesting.measure kept
+  falls = fall h d m ready (opened_among h t d suggesting.opened) suggesting.measure
 
   suggests : suggests_induction h t ≡ true
   suggests =

@@ -102,7 +102,7 @@ leads_on fall give bank new history goal p t d measure arguments n o ready over 
       count = ap length (sym own) ∙ length-map arguments (term_at bank) ∙ suggested.count ∙ sym (length-map d.formals.now (text_at bank));
       over = arguments_over (symbols_of h) whole over;
     } in
-    induction_by fall give h (definition_at bank d) (term_at bank measure) whole (terms_at bank goal) ready suggesting suggested.usable.kept there.call there.among (term_at bank p)
+    induction_by fall give h (definition_at bank d) (term_at bank measure) whole (terms_at bank goal) ready suggesting there.call there.among (term_at bank p)
     (term_at new n.base) (term_at new n.step) claim.denotes there.base there.step
 
 -- an element that is there does not depend on what stands for none

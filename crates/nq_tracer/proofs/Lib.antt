@@ -1,5 +1,4 @@
 pub mod FallLemmas
-pub mod GroundFalls
 pub mod DefinitionFalls
 pub mod ChangeLemmas
 pub mod AndLemmas

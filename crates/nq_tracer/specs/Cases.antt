@@ -10,7 +10,7 @@ use Rattle.nq_logic.specs.RuleShapes.{variables_of}
 use Rattle.nq_logic.specs.Laws.{InductionCase}
 use Rattle.nq_events.specs.Inductions.{opened_by, arguments_of, suggests_by}
 use Rattle.nq_goals.specs.Inducting.{IsCase, all_of}
-use Rattle.nq_tracer.specs.Falls.{Falls}
+use Rattle.nq_falls.specs.Falls.{Falls}
 
 -- and what a variable becomes, if the term is one
 abbrev pub change_of : Term → Term → Substitution → Substitution

@@ -1,5 +1,5 @@
 -- Inductions by one case, over ids, and what is found of them.
-use Rattle.std.specs.Prelude.{◌≡◌, ℕ, true, false, All, None, Some, List, [], ◌∷◌, length}
+use Rattle.std.specs.Prelude.{◌≡◌, true, false, All, None, Some, List, [], ◌∷◌, length}
 use Rattle.nq_logic.specs.Terms.{Name, Term, IsAmong, Substitution}
 use Rattle.nq_logic.specs.Histories.{History}
 use Rattle.nq_logic.specs.Laws.{InductionCase}
@@ -12,14 +12,12 @@ use Rattle.nq_goals.specs.Moves.{HasNoCandidate}
 use Rattle.nq_goals.specs.Normal.{IsNormal}
 use Rattle.nq_goals.specs.Inducting.{Scheme, IsScheme, goals_of_scheme, suggesting_in, base_case, step_case}
 use Rattle.nq_logic.specs.Histories as logic
-use Rattle.nq_logic.specs.Names.{has_name}
 use Rattle.nq_logic.specs.Numerals.{number_of}
 use Rattle.nq_logic.specs.Admissible.{Call, calls_of}
 use Rattle.nq_events.specs.Inductions.{suggests_by, suggests_induction}
 use Rattle.nq_event.specs.declared.definitions.Definition.{Definition}
 use Rattle.nq_event.specs.Definitions.{definition_at}
 use Rattle.nq_calls.specs.Mentions.{IsApart}
-use Rattle.nq_tracer.specs.Falls.{left_out}
 use Rattle.nq_tracer.specs.Cases.{case_by, case_of}
 use Rattle.nq_tracer.specs.declared.drafts.Draft.{Draft}
 use Rattle.nq_tracer.specs.declared.nexts.Nexts.{Nexts}
@@ -74,14 +72,10 @@ pub record LeadsBy (d : logic.Definition) (m : Term) (arguments : List Term) (p 
   pub base : term_at bank n.base ≡ base_case p (case_of d m arguments call ∷ [])
   pub step : term_at bank n.step ≡ step_case p (case_of d m arguments call)
 
--- the measure of the function is known to fall, if it has one, and the function builds no numeral
-pub record IsUsable (f : List ℕ) : Type 0 where
-  pub kept : has_name f left_out ≡ false
-  pub apart : IsApart f
-
--- the term is a call that suggests an induction by the measure of the definition, with an argument for each formal
+-- The term is a call that suggests an induction by the measure of the definition, with an argument for each formal. The function
+-- builds no numeral.
 pub record IsSuggestedBy (bank : Content) (d : Definition) (measure t : TermId) (arguments : List TermId) : Type 0 where
-  pub usable : IsUsable (text_at bank d.name)
+  pub apart : IsApart (text_at bank d.name)
   pub count : length arguments ≡ length d.formals.now
   pub call : number_of (term_at bank t) ≡ None
   pub suggests : suggests_by (definition_at bank d) (Some (term_at bank measure)) (terms_at bank arguments) ≡ true

@@ -3,14 +3,13 @@ ghost use Rattle.nq_tracer.specs.Cases.{CallsGiveCases};
 ghost use Rattle.nq_tracer.specs.Falls.{DefinitionsFall};
 ghost use Rattle.nq_tracer.specs.Steps.{OneMoveIsTrace};
 
-use nq_arith::{measure_laws, nest_is_smaller};
+use nq_falls::ground_definitions_fall;
 
-/// The measures of definitions fall at each call of the function, but for a few of the ground history.
+/// The measures of definitions fall at each call of the function.
 pub fn definitions_fall()
     ensures { DefinitionsFall }
 {
-    nest_is_smaller();
-    measure_laws();
+    ground_definitions_fall();
 }
 
 /// Each call within the body of a function gives a case of the scheme that a call of the function suggests.

@@ -16,7 +16,7 @@ ghost use Rattle.nq_calls.specs.Mentions.{IsApart};
 ghost use Rattle.nq_events.specs.Inductions.{suggests_by};
 ghost use Rattle.nq_event.specs.Definitions.{DefinitionStands, definition_at};
 ghost use Rattle.nq_goals.specs.Inducting.{claim_of};
-ghost use Rattle.nq_tracer.specs.Leads.{IsInductionOf, IsSuggestedBy, IsUsable, LeadsBy, LeadsFrom, NextsStand};
+ghost use Rattle.nq_tracer.specs.Leads.{IsInductionOf, IsSuggestedBy, LeadsBy, LeadsFrom, NextsStand};
 
 use crate::drafts::{draft_of, pairs_of};
 use crate::laws::{calls_give_cases, definitions_fall};
@@ -32,15 +32,12 @@ use std::alloc::AllocError;
 /// The size from which on a body is not walked.
 const SIZE_LIMIT: u64 = 20000;
 
-/// Is it none of the functions whose measures are not known to fall, and of which no numeral is built?
-fn is_usable(bank: &Bank, f: Sym) -> bool
+/// Is it none of the functions of which numerals and the NOTs of tests are built?
+fn is_apart(bank: &Bank, f: Sym) -> bool
     requires { IsNamed bank.now f }
-    ensures { result ≡ true → IsUsable (text_at bank.now f) }
+    ensures { result ≡ true → IsApart (text_at bank.now f) }
 {
-    !bank.is_ground(f, ground::QUOTIENT)
-        && !bank.is_ground(f, ground::REMAINDER)
-        && !bank.is_ground(f, ground::ORD_LESSP)
-        && !bank.is_ground(f, ground::ZERO)
+    !bank.is_ground(f, ground::ZERO)
         && !bank.is_ground(f, ground::ADD1)
         && !bank.is_ground(f, ground::NOT)
 }
@@ -173,7 +170,7 @@ fn is_suggestion(
     if arguments.len() != definition.formals.len() || !is_call(bank, t) {
         return Ok(false);
     }
-    if !is_usable(bank, definition.name) || bank.size(definition.body) > SIZE_LIMIT {
+    if !is_apart(bank, definition.name) || bank.size(definition.body) > SIZE_LIMIT {
         return Ok(false);
     }
     suggests(bank, definition.formals, measure, arguments)

@@ -40,7 +40,7 @@ use Rattle.nq_kernel.specs.declared.verdict.PathStep.{PathStep}
 use Rattle.nq_waterfall.specs.declared.trail.Trail.{Trail}
 use Rattle.nq_event.specs.EventsAt.{pair_at, instance_at, hints_at}
 use Rattle.nq_waterfall.specs.Trails.{goals_at, passed_at, above_onto, above_at, steps_at, AncestorStands, StepStands, TrailStands}
-use Rattle.nq_waterfall.specs.Ready.{CanMove, IsGoalIn, HoldingLaws}
+use Rattle.nq_waterfall.specs.Ready.{CanMove, IsGoalIn, IsPathIn, HoldingLaws}
 
 counts : (history : List Entry) (old new : Work) → WorkStands history old → new ≡ record { bank = old.bank; log = old.log; counter = new.counter; known = old.known } → CountsUp old.counter new.counter → WorkGrows history old new
 counts history old new stands same up = subst (WorkGrows history old) (sym same) (bank_grows history old old.bank new.counter stands (Grows-refl old.bank) (AddsSymbols-refl old.bank) up)
@@ -149,6 +149,9 @@ module _ (history : List Entry) (old new : Work) (stands : WorkStands history ol
 
   pub goals_grown : (goals : List (Vec TermId Global)) → All (λ goal. IsGoalIn history old goal.items) goals → All (λ goal. IsGoalIn history new goal.items) goals
   goals_grown goals k = λ i d below. goal_grown (get_or goals i d).items (k i d below)
+
+  pub path_in_grown : (path : List Ancestor) → IsPathIn history old path → IsPathIn history new path
+  path_in_grown path k = λ i d below. goal_grown (get_or path i d).goal.items (k i d below)
 
   pub ready_grown : HoldingLaws → (hints : Hints) → CanMove history hints old → CanMove history hints new
   ready_grown laws hints ready =

@@ -37,7 +37,7 @@ use Rattle.nq_waterfall.specs.declared.solving.Solved.TheVariants.{Proved, Unsol
 use Rattle.nq_waterfall.specs.declared.solving.Tried.{Tried}
 use Rattle.nq_event.specs.EventsAt.{hints_at}
 use Rattle.nq_waterfall.specs.Trails.{goals_at, passed_at, above_onto, above_at, steps_at, step_at, AncestorStands, StepStands, TrailStands, IsWithAncestor, IsWithStep}
-use Rattle.nq_waterfall.specs.Ready.{CanMove, IsGoalIn, HoldingLaws}
+use Rattle.nq_waterfall.specs.Ready.{CanMove, IsGoalIn, IsPathIn, HoldingLaws}
 use Rattle.nq_traces.specs.Traces.{IsOneOf, TraceGoesOn}
 use Rattle.nq_waterfall.specs.Turns.{MoveAt, SpentAt, HaveLines}
 use Rattle.nq_waterfall.specs.Solved.{LeavesAt, TriedAt, GoesOnAt, IsSolved, TrailGoesOn, IsNextSolved, NextGoesOn, AreClosed, IsNoted, IsCutBack}
@@ -210,6 +210,14 @@ above_next bank old new goal by w =
 pub path_pushed : (bank : Content) (old new : List Ancestor) (goal : List TermId) (kind : MoveKind) → IsWithAncestor old new goal kind → All (AncestorStands bank) old → All (Stands bank) goal → All (AncestorStands bank) new
 path_pushed bank old new goal by w stand here =
     subst (All (AncestorStands bank)) (sym w.whole) (All-push (AncestorStands bank) old w.last stand (subst (All (Stands bank)) (sym w.goal_is) here))
+
+-- each literal of the goals above is in with a goal more, and where there is none
+pub path_in_pushed : (history : List Entry) (work : Work) (old new : List Ancestor) (goal : List TermId) (kind : MoveKind) → IsWithAncestor old new goal kind → IsPathIn history work old → IsGoalIn history work goal → IsPathIn history work new
+path_in_pushed history work old new goal kind w above here =
+    subst (IsPathIn history work) (sym w.whole) (All-push (λ (a : Ancestor). IsGoalIn history work a.goal.items) old w.last above (subst (IsGoalIn history work) (sym w.goal_is) here))
+
+pub path_in_none : (history : List Entry) (work : Work) (path : List Ancestor) → path ≡ [] → IsPathIn history work path
+path_in_none history work path e = subst (IsPathIn history work) (sym e) (λ i d below. absurd (omega (arith, below)))
 
 by_some : {X : Type 0} (a b : X) → Some a ≡ Some b → a ≡ b
 by_some a b e = cc

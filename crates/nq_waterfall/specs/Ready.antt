@@ -14,6 +14,7 @@ use Rattle.nq_kernel.specs.Ready.{IsReady, WorkHolds}
 use Rattle.nq_kernel.specs.ReadyLaws.{ReadyGrown, GrownWorkHolds}
 use Rattle.nq_kernel.specs.Hints.{HintsAreIn}
 use Rattle.nq_lines.specs.Lines.{IsTermIn, LineHasOnly}
+use Rattle.nq_waterfall.specs.declared.trail.Ancestor.{Ancestor}
 
 -- What a prover may assume of the history, of the lines that stand, and of the hints. This is all that is asked where goals are
 -- moved.
@@ -27,6 +28,10 @@ pub record CanMove (history : List Entry) (hints : Hints) (work : Work) : Type 0
 -- each literal of the goal is over the history's functions, with variables that a log can spell
 abbrev pub IsGoalIn : List Entry → Work → List TermId → Type 0
 IsGoalIn history work goal = All (IsTermIn history work) goal
+
+-- so is each literal of the goals on a way down
+abbrev pub IsPathIn : List Entry → Work → List Ancestor → Type 0
+IsPathIn history work path = All (λ above. IsGoalIn history work above.goal.items) path
 
 -- A ready history stays ready, and lines stay derivable, however the work grows. A goal is derivable of which a line has only
 -- literals.

@@ -8,7 +8,7 @@ ghost use Rattle.nq_history.specs.declared.entry.Entry.{Entry};
 ghost use Rattle.nq_kernel.specs.Growing.{WorkGrows};
 ghost use Rattle.nq_lines.specs.Lines.{LineHasOnly};
 ghost use Rattle.nq_waterfall.specs.Trails.{AncestorStands, goals_at};
-ghost use Rattle.nq_waterfall.specs.Ready.{CanMove, IsGoalIn};
+ghost use Rattle.nq_waterfall.specs.Ready.{CanMove, IsGoalIn, IsPathIn};
 ghost use Rattle.nq_waterfall.specs.Turns.{IsTurn, HaveLines};
 
 use crate::trail::Ancestor;
@@ -59,6 +59,7 @@ pub trait Mover {
     ) -> Result<Turn<Self::Way>, Stop>
         requires ready { CanMove history.now hints.now work.old }
         requires path { All (AncestorStands work.old.bank) path.now }
+        requires path_in { IsPathIn history.now work.old path.now }
         requires goal { IsGoalIn history.now work.old goal.now }
         ensures turn { IfOk result (IsTurn is_way history.now hints.now work.new path.now goal.now) }
         ensures grows { WorkGrows history.now work.old work.new }

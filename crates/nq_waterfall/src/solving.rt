@@ -4,7 +4,7 @@ ghost use Rattle.nq_logic.specs.Sizes.{depth_limit};
 ghost use Rattle.nq_bank.specs.Content.{terms_at};
 ghost use Rattle.nq_kernel.specs.Growing.{WorkStands, WorkGrows};
 ghost use Rattle.nq_waterfall.specs.Trails.{TrailStands, goals_at, steps_at};
-ghost use Rattle.nq_waterfall.specs.Ready.{CanMove, IsGoalIn};
+ghost use Rattle.nq_waterfall.specs.Ready.{CanMove, IsGoalIn, IsPathIn};
 ghost use Rattle.nq_waterfall.specs.Turns.{IsLead};
 ghost use Rattle.nq_waterfall.specs.Solved.{IsSolved, TrailGoesOn, IsNextSolved, NextGoesOn, TriedAt, AreClosed, IsNoted, IsCutBack};
 
@@ -113,6 +113,7 @@ pub fn solve<M: Mover>(
 ) -> Result<Solved, Halt>
     requires ready { CanMove history.now hints.now work.old }
     requires trail { TrailStands work.old.bank trail.old }
+    requires path_in { IsPathIn history.now work.old trail.old.path.items }
     requires goal { IsGoalIn history.now work.old goal.now }
     ensures solved { IfOk result (IsSolved history.now hints.now work.new trail.old trail.new goal.now place.number) }
     ensures trail { OnOk result (TrailGoesOn history.now hints.now work.new trail.old trail.new goal.now place.trace) }
@@ -143,6 +144,7 @@ fn solve_led<M: Mover>(
 ) -> Result<Solved, Halt>
     requires ready { CanMove history.now hints.now work.old }
     requires trail { TrailStands work.old.bank trail.old }
+    requires path_in { IsPathIn history.now work.old trail.old.path.items }
     requires goal { IsGoalIn history.now work.old goal.now }
     requires depth { place.depth ≤ depth_limit }
     requires lead { IsLead M.is_way history.now hints.now work.old trail.old.path.items goal.now lead.now }
@@ -179,6 +181,7 @@ fn solve_nexts<M: Mover>(
 ) -> Result<Tried, Halt>
     requires ready { CanMove history.now hints.now work.old }
     requires trail { TrailStands work.old.bank trail.old }
+    requires path_in { IsPathIn history.now work.old trail.old.path.items }
     requires goal { IsGoalIn history.now work.old goal.now }
     requires depth { place.depth ≤ depth_limit }
     requires lead { IsLead M.is_way history.now hints.now work.old trail.old.path.items goal.now lead.now }
@@ -226,6 +229,7 @@ fn solve_next<M: Mover>(
 ) -> Result<Solved, Halt>
     requires ready { CanMove history.now hints.now work.old }
     requires trail { TrailStands work.old.bank trail.old }
+    requires path_in { IsPathIn history.now work.old trail.old.path.items }
     requires next { IsGoalIn history.now work.old next.now }
     requires depth { place.depth ≤ depth_limit }
     ensures solved { IfOk result (IsNextSolved history.now hints.now work.new trail.old trail.new place.number kind next.now) }

@@ -1344,10 +1344,6 @@ outside::rewrite_by_fact-returns-in-None-clause-grows t c =
     let g2 : WorkGrows h one two = c.rewrite_by_opening.ensures.grows in
     (WorkGrows-trans h old one two g1 g2)
 
-pub opening::rewrite_by_opening-returns-else-is_opened-clause-grows : goal.opening::rewrite_by_opening-returns-else-is_opened-clause-grows
-opening::rewrite_by_opening-returns-else-is_opened-clause-grows t c =
-    WorkGrows-refl c.args.history.now c.args.work.now c.requires.can.stands
-
 pub opening::rewrite_opening-rewrite_body-requires : goal.opening::rewrite_opening-rewrite_body-requires
 opening::rewrite_opening-rewrite_body-requires t c =
     let h : List Entry = c.args.history.now in
@@ -1784,3 +1780,413 @@ reducing::relieve_within-returns-clause-grows t c =
     let two : Work = c.known_test.new.work in
     let g2 : WorkGrows h one two = c.known_test.ensures.grows in
     (WorkGrows-trans h old one two g1 g2)
+
+pub selecting::rewrite_answered-rewrite_on-requires : goal.selecting::rewrite_answered-rewrite_on-requires
+selecting::rewrite_answered-rewrite_on-requires t c =
+    let h : List Entry = c.args.history.now in
+    let hyps : List TermId = c.args.assumed.now in
+    let old : Work = c.args.work.now in
+    let one : Work = c.reduce_kinded.new.work in
+    let g1 : WorkGrows h old one = c.reduce_kinded.ensures.grows in
+    let fewer : one.counter.limit - one.counter.used ≤ old.counter.limit - old.counter.used = fewer_left h old one g1 in
+    (omega (arith, fewer), (c.requires.depth, ((can_grown h old one g1 hyps c.args.t c.requires.can), rewritten_now h hyps old one c.args.t c.in_ok-step.step g1 c.requires.can c.in_ok-step.ensures.ok)))
+
+pub selecting::rewrite_answered-returns-in-Some-clause-ok : goal.selecting::rewrite_answered-returns-in-Some-clause-ok
+selecting::rewrite_answered-returns-in-Some-clause-ok t c =
+    let h : List Entry = c.args.history.now in
+    let hyps : List TermId = c.args.assumed.now in
+    let old : Work = c.args.work.now in
+    let one : Work = c.reduce_kinded.new.work in
+    let g1 : WorkGrows h old one = c.reduce_kinded.ensures.grows in
+    let two : Work = c.rewrite_on.new.work in
+    let g2 : WorkGrows h one two = c.rewrite_on.ensures.grows in
+    told_before h hyps old one two c.args.t c.rewrite_on.result g1 c.requires.can c.rewrite_on.ensures.ok
+
+pub selecting::rewrite_answered-returns-in-Some-clause-grows : goal.selecting::rewrite_answered-returns-in-Some-clause-grows
+selecting::rewrite_answered-returns-in-Some-clause-grows t c =
+    let h : List Entry = c.args.history.now in
+    let hyps : List TermId = c.args.assumed.now in
+    let old : Work = c.args.work.now in
+    let one : Work = c.reduce_kinded.new.work in
+    let g1 : WorkGrows h old one = c.reduce_kinded.ensures.grows in
+    let two : Work = c.rewrite_on.new.work in
+    let g2 : WorkGrows h one two = c.rewrite_on.ensures.grows in
+    (WorkGrows-trans h old one two g1 g2)
+
+pub selecting::rewrite_answered-rewrite_parts-requires : goal.selecting::rewrite_answered-rewrite_parts-requires
+selecting::rewrite_answered-rewrite_parts-requires t c =
+    let h : List Entry = c.args.history.now in
+    let hyps : List TermId = c.args.assumed.now in
+    let old : Work = c.args.work.now in
+    let one : Work = c.reduce_kinded.new.work in
+    let g1 : WorkGrows h old one = c.reduce_kinded.ensures.grows in
+    let fewer : one.counter.limit - one.counter.used ≤ old.counter.limit - old.counter.used = fewer_left h old one g1 in
+    (omega (arith, fewer), (c.requires.depth, (can_grown h old one g1 hyps c.args.t c.requires.can)))
+
+pub selecting::rewrite_answered-returns-in-None-clause-ok : goal.selecting::rewrite_answered-returns-in-None-clause-ok
+selecting::rewrite_answered-returns-in-None-clause-ok t c =
+    let h : List Entry = c.args.history.now in
+    let hyps : List TermId = c.args.assumed.now in
+    let old : Work = c.args.work.now in
+    let one : Work = c.reduce_kinded.new.work in
+    let g1 : WorkGrows h old one = c.reduce_kinded.ensures.grows in
+    let two : Work = c.rewrite_parts.new.work in
+    let g2 : WorkGrows h one two = c.rewrite_parts.ensures.grows in
+    told_before h hyps old one two c.args.t c.rewrite_parts.result g1 c.requires.can c.rewrite_parts.ensures.ok
+
+pub selecting::rewrite_answered-returns-in-None-clause-grows : goal.selecting::rewrite_answered-returns-in-None-clause-grows
+selecting::rewrite_answered-returns-in-None-clause-grows t c =
+    let h : List Entry = c.args.history.now in
+    let hyps : List TermId = c.args.assumed.now in
+    let old : Work = c.args.work.now in
+    let one : Work = c.reduce_kinded.new.work in
+    let g1 : WorkGrows h old one = c.reduce_kinded.ensures.grows in
+    let two : Work = c.rewrite_parts.new.work in
+    let g2 : WorkGrows h one two = c.rewrite_parts.ensures.grows in
+    (WorkGrows-trans h old one two g1 g2)
+
+pub selecting::rewrite_asked_if-rewrite_asked_by-requires : goal.selecting::rewrite_asked_if-rewrite_asked_by-requires
+selecting::rewrite_asked_if-rewrite_asked_by-requires t c =
+    let h : List Entry = c.args.history.now in
+    let hyps : List TermId = c.args.assumed.now in
+    let old : Work = c.args.work.now in
+    let one : Work = c.rewrite_term.new.work in
+    let g1 : WorkGrows h old one = c.rewrite_term.ensures.grows in
+    let fewer : one.counter.limit - one.counter.used ≤ old.counter.limit - old.counter.used = fewer_left h old one g1 in
+    (omega (arith, fewer), (c.requires.depth, ((can_grown h old one g1 hyps c.args.t c.requires.can), ((argument_grown h old one g1 c.args.t 1 c.args.a c.requires.can.stands c.requires.can.term c.requires.argument), ((if_grown h old one g1 c.args.a c.args.parts c.requires.can.stands c.requires.argument.argument c.requires.parts), rewritten_now h hyps old one c.args.parts.test c.in_ok-test.test g1 (can_term h old hyps c.args.t c.args.parts.test c.requires.can c.requires.parts.test) c.in_ok-test.ensures.ok)))))
+
+pub selecting::rewrite_asked_if-returns-clause-ok : goal.selecting::rewrite_asked_if-returns-clause-ok
+selecting::rewrite_asked_if-returns-clause-ok t c =
+    let h : List Entry = c.args.history.now in
+    let hyps : List TermId = c.args.assumed.now in
+    let old : Work = c.args.work.now in
+    let one : Work = c.rewrite_term.new.work in
+    let g1 : WorkGrows h old one = c.rewrite_term.ensures.grows in
+    let two : Work = c.rewrite_asked_by.new.work in
+    let g2 : WorkGrows h one two = c.rewrite_asked_by.ensures.grows in
+    told_before h hyps old one two c.args.t c.rewrite_asked_by.result g1 c.requires.can c.rewrite_asked_by.ensures.ok
+
+pub selecting::rewrite_asked_if-returns-clause-grows : goal.selecting::rewrite_asked_if-returns-clause-grows
+selecting::rewrite_asked_if-returns-clause-grows t c =
+    let h : List Entry = c.args.history.now in
+    let hyps : List TermId = c.args.assumed.now in
+    let old : Work = c.args.work.now in
+    let one : Work = c.rewrite_term.new.work in
+    let g1 : WorkGrows h old one = c.rewrite_term.ensures.grows in
+    let two : Work = c.rewrite_asked_by.new.work in
+    let g2 : WorkGrows h one two = c.rewrite_asked_by.ensures.grows in
+    (WorkGrows-trans h old one two g1 g2)
+
+pub selecting::rewrite_asked_by-known_test-requires : goal.selecting::rewrite_asked_by-known_test-requires
+selecting::rewrite_asked_by-known_test-requires t c =
+    let h : List Entry = c.args.history.now in
+    let hyps : List TermId = c.args.assumed.now in
+    let old : Work = c.args.work.now in
+    (omega arith, (c.requires.depth, (can_term h old hyps c.args.t c.args.test.term c.requires.can c.requires.test.new)))
+
+pub selecting::rewrite_asked_by-rewrite_asked_chosen-requires : goal.selecting::rewrite_asked_by-rewrite_asked_chosen-requires
+selecting::rewrite_asked_by-rewrite_asked_chosen-requires t c =
+    let h : List Entry = c.args.history.now in
+    let hyps : List TermId = c.args.assumed.now in
+    let old : Work = c.args.work.now in
+    let one : Work = c.known_test.new.work in
+    let g1 : WorkGrows h old one = c.known_test.ensures.grows in
+    let fewer : one.counter.limit - one.counter.used ≤ old.counter.limit - old.counter.used = fewer_left h old one g1 in
+    (omega (arith, fewer), (c.requires.depth, ((can_grown h old one g1 hyps c.args.t c.requires.can), ((argument_grown h old one g1 c.args.t 1 c.args.a c.requires.can.stands c.requires.can.term c.requires.argument), ((if_grown h old one g1 c.args.a c.args.parts c.requires.can.stands c.requires.argument.argument c.requires.parts), (rewritten_after h old one g1 hyps c.args.parts.test c.args.test (can_term h old hyps c.args.t c.args.parts.test c.requires.can c.requires.parts.test) c.requires.test, known_now h hyps old one c.args.test.term c.in-Some.known g1 (can_term h old hyps c.args.t c.args.test.term c.requires.can c.requires.test.new) (subst (λ o. IfSome o (IsKnown one (terms_at old.bank hyps) (term_at old.bank c.args.test.term))) c.in-Some.is c.in_ok-known.ensures.known)))))))
+
+pub selecting::rewrite_asked_by-returns-in-Some-clause-ok : goal.selecting::rewrite_asked_by-returns-in-Some-clause-ok
+selecting::rewrite_asked_by-returns-in-Some-clause-ok t c =
+    let h : List Entry = c.args.history.now in
+    let hyps : List TermId = c.args.assumed.now in
+    let old : Work = c.args.work.now in
+    let one : Work = c.known_test.new.work in
+    let g1 : WorkGrows h old one = c.known_test.ensures.grows in
+    let two : Work = c.rewrite_asked_chosen.new.work in
+    let g2 : WorkGrows h one two = c.rewrite_asked_chosen.ensures.grows in
+    told_before h hyps old one two c.args.t c.rewrite_asked_chosen.result g1 c.requires.can c.rewrite_asked_chosen.ensures.ok
+
+pub selecting::rewrite_asked_by-returns-in-Some-clause-grows : goal.selecting::rewrite_asked_by-returns-in-Some-clause-grows
+selecting::rewrite_asked_by-returns-in-Some-clause-grows t c =
+    let h : List Entry = c.args.history.now in
+    let hyps : List TermId = c.args.assumed.now in
+    let old : Work = c.args.work.now in
+    let one : Work = c.known_test.new.work in
+    let g1 : WorkGrows h old one = c.known_test.ensures.grows in
+    let two : Work = c.rewrite_asked_chosen.new.work in
+    let g2 : WorkGrows h one two = c.rewrite_asked_chosen.ensures.grows in
+    (WorkGrows-trans h old one two g1 g2)
+
+pub selecting::rewrite_asked_by-rewrite_asked_both-requires : goal.selecting::rewrite_asked_by-rewrite_asked_both-requires
+selecting::rewrite_asked_by-rewrite_asked_both-requires t c =
+    let h : List Entry = c.args.history.now in
+    let hyps : List TermId = c.args.assumed.now in
+    let old : Work = c.args.work.now in
+    let one : Work = c.known_test.new.work in
+    let g1 : WorkGrows h old one = c.known_test.ensures.grows in
+    let fewer : one.counter.limit - one.counter.used ≤ old.counter.limit - old.counter.used = fewer_left h old one g1 in
+    (omega (arith, fewer), (c.requires.depth, ((can_grown h old one g1 hyps c.args.t c.requires.can), ((argument_grown h old one g1 c.args.t 1 c.args.a c.requires.can.stands c.requires.can.term c.requires.argument), ((if_grown h old one g1 c.args.a c.args.parts c.requires.can.stands c.requires.argument.argument c.requires.parts), rewritten_after h old one g1 hyps c.args.parts.test c.args.test (can_term h old hyps c.args.t c.args.parts.test c.requires.can c.requires.parts.test) c.requires.test)))))
+
+pub selecting::rewrite_asked_by-returns-in-None-clause-ok : goal.selecting::rewrite_asked_by-returns-in-None-clause-ok
+selecting::rewrite_asked_by-returns-in-None-clause-ok t c =
+    let h : List Entry = c.args.history.now in
+    let hyps : List TermId = c.args.assumed.now in
+    let old : Work = c.args.work.now in
+    let one : Work = c.known_test.new.work in
+    let g1 : WorkGrows h old one = c.known_test.ensures.grows in
+    let two : Work = c.rewrite_asked_both.new.work in
+    let g2 : WorkGrows h one two = c.rewrite_asked_both.ensures.grows in
+    told_before h hyps old one two c.args.t c.rewrite_asked_both.result g1 c.requires.can c.rewrite_asked_both.ensures.ok
+
+pub selecting::rewrite_asked_by-returns-in-None-clause-grows : goal.selecting::rewrite_asked_by-returns-in-None-clause-grows
+selecting::rewrite_asked_by-returns-in-None-clause-grows t c =
+    let h : List Entry = c.args.history.now in
+    let hyps : List TermId = c.args.assumed.now in
+    let old : Work = c.args.work.now in
+    let one : Work = c.known_test.new.work in
+    let g1 : WorkGrows h old one = c.known_test.ensures.grows in
+    let two : Work = c.rewrite_asked_both.new.work in
+    let g2 : WorkGrows h one two = c.rewrite_asked_both.ensures.grows in
+    (WorkGrows-trans h old one two g1 g2)
+
+pub selecting::rewrite_asked_both-rewrite_divided-requires : goal.selecting::rewrite_asked_both-rewrite_divided-requires
+selecting::rewrite_asked_both-rewrite_divided-requires t c =
+    let h : List Entry = c.args.history.now in
+    let hyps : List TermId = c.args.assumed.now in
+    let old : Work = c.args.work.now in
+    let one : Work = c.asked_of_tested.new.work in
+    let g1 : WorkGrows h old one = c.asked_of_tested.ensures.grows in
+    let fewer : one.counter.limit - one.counter.used ≤ old.counter.limit - old.counter.used = fewer_left h old one g1 in
+    (omega (arith, fewer), (c.requires.depth, ((can_term h one hyps c.args.t c.in_ok-whole.whole.term (can_grown h old one g1 hyps c.args.t c.requires.can) c.in_ok-whole.ensures.ok.new), (term_grown h old one c.dividing_test-p.result c.requires.can.stands g1 c.dividing_test-p.ensures))))
+
+pub selecting::rewrite_asked_both-returns-in_err-rest-clause-grows : goal.selecting::rewrite_asked_both-returns-in_err-rest-clause-grows
+selecting::rewrite_asked_both-returns-in_err-rest-clause-grows t c =
+    let h : List Entry = c.args.history.now in
+    let hyps : List TermId = c.args.assumed.now in
+    let old : Work = c.args.work.now in
+    let one : Work = c.asked_of_tested.new.work in
+    let g1 : WorkGrows h old one = c.asked_of_tested.ensures.grows in
+    let two : Work = c.rewrite_divided.new.work in
+    let g2 : WorkGrows h one two = c.rewrite_divided.ensures.grows in
+    (WorkGrows-trans h old one two g1 g2)
+
+pub selecting::rewrite_asked_both-follow-requires-clause-can : goal.selecting::rewrite_asked_both-follow-requires-clause-can
+selecting::rewrite_asked_both-follow-requires-clause-can t c =
+    let h : List Entry = c.args.history.now in
+    let hyps : List TermId = c.args.assumed.now in
+    let old : Work = c.args.work.now in
+    let one : Work = c.asked_of_tested.new.work in
+    let g1 : WorkGrows h old one = c.asked_of_tested.ensures.grows in
+    let two : Work = c.rewrite_divided.new.work in
+    let g2 : WorkGrows h one two = c.rewrite_divided.ensures.grows in
+    (can_grown h old two (WorkGrows-trans h old one two g1 g2) hyps c.args.t c.requires.can)
+
+pub selecting::rewrite_asked_both-follow-requires-clause-first : goal.selecting::rewrite_asked_both-follow-requires-clause-first
+selecting::rewrite_asked_both-follow-requires-clause-first t c =
+    let h : List Entry = c.args.history.now in
+    let hyps : List TermId = c.args.assumed.now in
+    let old : Work = c.args.work.now in
+    let one : Work = c.asked_of_tested.new.work in
+    let g1 : WorkGrows h old one = c.asked_of_tested.ensures.grows in
+    let two : Work = c.rewrite_divided.new.work in
+    let g2 : WorkGrows h one two = c.rewrite_divided.ensures.grows in
+    rewritten_carried h hyps old one two c.args.t c.in_ok-whole.whole g1 g2 c.requires.can c.in_ok-whole.ensures.ok
+
+pub selecting::rewrite_asked_both-follow-requires-clause-second : goal.selecting::rewrite_asked_both-follow-requires-clause-second
+selecting::rewrite_asked_both-follow-requires-clause-second t c =
+    let h : List Entry = c.args.history.now in
+    let hyps : List TermId = c.args.assumed.now in
+    let old : Work = c.args.work.now in
+    let one : Work = c.asked_of_tested.new.work in
+    let g1 : WorkGrows h old one = c.asked_of_tested.ensures.grows in
+    let two : Work = c.rewrite_divided.new.work in
+    let g2 : WorkGrows h one two = c.rewrite_divided.ensures.grows in
+    rewritten_now h hyps one two c.in_ok-whole.whole.term c.in_ok-rest.rest g2 (can_term h one hyps c.args.t c.in_ok-whole.whole.term (can_grown h old one g1 hyps c.args.t c.requires.can) c.in_ok-whole.ensures.ok.new) c.in_ok-rest.ensures.ok
+
+pub selecting::rewrite_asked_both-returns-clause-ok : goal.selecting::rewrite_asked_both-returns-clause-ok
+selecting::rewrite_asked_both-returns-clause-ok t c =
+    let h : List Entry = c.args.history.now in
+    let hyps : List TermId = c.args.assumed.now in
+    let old : Work = c.args.work.now in
+    let one : Work = c.asked_of_tested.new.work in
+    let g1 : WorkGrows h old one = c.asked_of_tested.ensures.grows in
+    let two : Work = c.rewrite_divided.new.work in
+    let g2 : WorkGrows h one two = c.rewrite_divided.ensures.grows in
+    let three : Work = c.follow.new.work in
+    let g3 : WorkGrows h two three = c.follow.ensures.grows in
+    told_before h hyps old two three c.args.t c.follow.result (WorkGrows-trans h old one two g1 g2) c.requires.can c.follow.ensures.ok
+
+pub selecting::rewrite_asked_both-returns-clause-grows : goal.selecting::rewrite_asked_both-returns-clause-grows
+selecting::rewrite_asked_both-returns-clause-grows t c =
+    let h : List Entry = c.args.history.now in
+    let hyps : List TermId = c.args.assumed.now in
+    let old : Work = c.args.work.now in
+    let one : Work = c.asked_of_tested.new.work in
+    let g1 : WorkGrows h old one = c.asked_of_tested.ensures.grows in
+    let two : Work = c.rewrite_divided.new.work in
+    let g2 : WorkGrows h one two = c.rewrite_divided.ensures.grows in
+    let three : Work = c.follow.new.work in
+    let g3 : WorkGrows h two three = c.follow.ensures.grows in
+    (WorkGrows-trans h old two three (WorkGrows-trans h old one two g1 g2) g3)
+
+pub selecting::rewrite_asked_chosen-rewrite_on-requires : goal.selecting::rewrite_asked_chosen-rewrite_on-requires
+selecting::rewrite_asked_chosen-rewrite_on-requires t c =
+    let h : List Entry = c.args.history.now in
+    let hyps : List TermId = c.args.assumed.now in
+    let old : Work = c.args.work.now in
+    let one : Work = c.asked_of_branch.new.work in
+    let g1 : WorkGrows h old one = c.asked_of_branch.ensures.grows in
+    let fewer : one.counter.limit - one.counter.used ≤ old.counter.limit - old.counter.used = fewer_left h old one g1 in
+    (omega (arith, fewer), (c.requires.depth, ((can_grown h old one g1 hyps c.args.t c.requires.can), rewritten_now h hyps old one c.args.t c.in_ok-step.step g1 c.requires.can c.in_ok-step.ensures.ok)))
+
+pub selecting::rewrite_asked_chosen-returns-clause-ok : goal.selecting::rewrite_asked_chosen-returns-clause-ok
+selecting::rewrite_asked_chosen-returns-clause-ok t c =
+    let h : List Entry = c.args.history.now in
+    let hyps : List TermId = c.args.assumed.now in
+    let old : Work = c.args.work.now in
+    let one : Work = c.asked_of_branch.new.work in
+    let g1 : WorkGrows h old one = c.asked_of_branch.ensures.grows in
+    let two : Work = c.rewrite_on.new.work in
+    let g2 : WorkGrows h one two = c.rewrite_on.ensures.grows in
+    told_before h hyps old one two c.args.t c.rewrite_on.result g1 c.requires.can c.rewrite_on.ensures.ok
+
+pub selecting::rewrite_asked_chosen-returns-clause-grows : goal.selecting::rewrite_asked_chosen-returns-clause-grows
+selecting::rewrite_asked_chosen-returns-clause-grows t c =
+    let h : List Entry = c.args.history.now in
+    let hyps : List TermId = c.args.assumed.now in
+    let old : Work = c.args.work.now in
+    let one : Work = c.asked_of_branch.new.work in
+    let g1 : WorkGrows h old one = c.asked_of_branch.ensures.grows in
+    let two : Work = c.rewrite_on.new.work in
+    let g2 : WorkGrows h one two = c.rewrite_on.ensures.grows in
+    (WorkGrows-trans h old one two g1 g2)
+
+pub selecting::rewrite_opened_call-rewrite_asked_body-requires : goal.selecting::rewrite_opened_call-rewrite_asked_body-requires
+selecting::rewrite_opened_call-rewrite_asked_body-requires t c =
+    let h : List Entry = c.args.history.now in
+    let hyps : List TermId = c.args.assumed.now in
+    let old : Work = c.args.work.now in
+    let one : Work = c.asked_of_opened.new.work in
+    let g1 : WorkGrows h old one = c.asked_of_opened.ensures.grows in
+    let fewer : one.counter.limit - one.counter.used ≤ old.counter.limit - old.counter.used = fewer_left h old one g1 in
+    (omega (arith, fewer), (c.requires.depth, ((can_grown h old one g1 hyps c.args.t c.requires.can), rewritten_now h hyps old one c.args.t c.in_ok-step.step g1 c.requires.can c.in_ok-step.ensures.ok)))
+
+pub selecting::rewrite_opened_call-returns-clause-ok : goal.selecting::rewrite_opened_call-returns-clause-ok
+selecting::rewrite_opened_call-returns-clause-ok t c =
+    let h : List Entry = c.args.history.now in
+    let hyps : List TermId = c.args.assumed.now in
+    let old : Work = c.args.work.now in
+    let one : Work = c.asked_of_opened.new.work in
+    let g1 : WorkGrows h old one = c.asked_of_opened.ensures.grows in
+    let two : Work = c.rewrite_asked_body.new.work in
+    let g2 : WorkGrows h one two = c.rewrite_asked_body.ensures.grows in
+    told_before h hyps old one two c.args.t c.rewrite_asked_body.result g1 c.requires.can c.rewrite_asked_body.ensures.ok
+
+pub selecting::rewrite_opened_call-returns-clause-grows : goal.selecting::rewrite_opened_call-returns-clause-grows
+selecting::rewrite_opened_call-returns-clause-grows t c =
+    let h : List Entry = c.args.history.now in
+    let hyps : List TermId = c.args.assumed.now in
+    let old : Work = c.args.work.now in
+    let one : Work = c.asked_of_opened.new.work in
+    let g1 : WorkGrows h old one = c.asked_of_opened.ensures.grows in
+    let two : Work = c.rewrite_asked_body.new.work in
+    let g2 : WorkGrows h one two = c.rewrite_asked_body.ensures.grows in
+    (WorkGrows-trans h old one two g1 g2)
+
+pub selecting::rewrite_selection-returns-in-None-clause-grows : goal.selecting::rewrite_selection-returns-in-None-clause-grows
+selecting::rewrite_selection-returns-in-None-clause-grows t c =
+    WorkGrows-refl c.args.history.now c.args.work.now c.requires.can.stands
+
+pub selecting::rewrite_asked_call-returns-in-None-clause-grows : goal.selecting::rewrite_asked_call-returns-in-None-clause-grows
+selecting::rewrite_asked_call-returns-in-None-clause-grows t c =
+    WorkGrows-refl c.args.history.now c.args.work.now c.requires.can.stands
+
+pub selecting::rewrite_asked_body-returns-in_err-within-clause-grows : goal.selecting::rewrite_asked_body-returns-in_err-within-clause-grows
+selecting::rewrite_asked_body-returns-in_err-within-clause-grows t c =
+    WorkGrows-refl c.args.history.now c.args.work.now c.requires.can.stands
+
+pub selecting::rewrite_asked_body-rewrite_term-requires : goal.selecting::rewrite_asked_body-rewrite_term-requires
+selecting::rewrite_asked_body-rewrite_term-requires t c =
+    let h : List Entry = c.args.history.now in
+    let hyps : List TermId = c.args.assumed.now in
+    let old : Work = c.args.work.now in
+    (omega arith, (can_term h old hyps c.args.t c.args.step.term c.requires.can c.requires.step.new))
+
+pub selecting::rewrite_asked_body-rewrite_asked_opened-requires : goal.selecting::rewrite_asked_body-rewrite_asked_opened-requires
+selecting::rewrite_asked_body-rewrite_asked_opened-requires t c =
+    let h : List Entry = c.args.history.now in
+    let hyps : List TermId = c.args.assumed.now in
+    let old : Work = c.args.work.now in
+    let one : Work = c.rewrite_term.new.work in
+    let g1 : WorkGrows h old one = c.rewrite_term.ensures.grows in
+    let fewer : one.counter.limit - one.counter.used ≤ old.counter.limit - old.counter.used = fewer_left h old one g1 in
+    (omega (arith, fewer), (c.requires.depth, ((can_grown h old one g1 hyps c.args.t c.requires.can), (rewritten_after h old one g1 hyps c.args.t c.args.step c.requires.can c.requires.step, rewritten_now h hyps old one c.args.step.term c.in_ok-body.body g1 (can_term h old hyps c.args.t c.args.step.term c.requires.can c.requires.step.new) c.in_ok-body.ensures.ok))))
+
+pub selecting::rewrite_asked_body-returns-clause-ok : goal.selecting::rewrite_asked_body-returns-clause-ok
+selecting::rewrite_asked_body-returns-clause-ok t c =
+    let h : List Entry = c.args.history.now in
+    let hyps : List TermId = c.args.assumed.now in
+    let old : Work = c.args.work.now in
+    let one : Work = c.rewrite_term.new.work in
+    let g1 : WorkGrows h old one = c.rewrite_term.ensures.grows in
+    let two : Work = c.rewrite_asked_opened.new.work in
+    let g2 : WorkGrows h one two = c.rewrite_asked_opened.ensures.grows in
+    told_before h hyps old one two c.args.t c.rewrite_asked_opened.result g1 c.requires.can c.rewrite_asked_opened.ensures.ok
+
+pub selecting::rewrite_asked_body-returns-clause-grows : goal.selecting::rewrite_asked_body-returns-clause-grows
+selecting::rewrite_asked_body-returns-clause-grows t c =
+    let h : List Entry = c.args.history.now in
+    let hyps : List TermId = c.args.assumed.now in
+    let old : Work = c.args.work.now in
+    let one : Work = c.rewrite_term.new.work in
+    let g1 : WorkGrows h old one = c.rewrite_term.ensures.grows in
+    let two : Work = c.rewrite_asked_opened.new.work in
+    let g2 : WorkGrows h one two = c.rewrite_asked_opened.ensures.grows in
+    (WorkGrows-trans h old one two g1 g2)
+
+pub selecting::rewrite_asked_opened-returns-in_err-kept-clause-grows : goal.selecting::rewrite_asked_opened-returns-in_err-kept-clause-grows
+selecting::rewrite_asked_opened-returns-in_err-kept-clause-grows t c =
+    WorkGrows-refl c.args.history.now c.args.work.now c.requires.can.stands
+
+pub selecting::rewrite_asked_opened-returns-then-not-kept-clause-grows : goal.selecting::rewrite_asked_opened-returns-then-not-kept-clause-grows
+selecting::rewrite_asked_opened-returns-then-not-kept-clause-grows t c =
+    WorkGrows-refl c.args.history.now c.args.work.now c.requires.can.stands
+
+pub selecting::rewrite_asked_opened-rewrite_on-requires : goal.selecting::rewrite_asked_opened-rewrite_on-requires
+selecting::rewrite_asked_opened-rewrite_on-requires t c =
+    let h : List Entry = c.args.history.now in
+    let hyps : List TermId = c.args.assumed.now in
+    let old : Work = c.args.work.now in
+    let one : Work = c.follow.new.work in
+    let g1 : WorkGrows h old one = c.follow.ensures.grows in
+    let fewer : one.counter.limit - one.counter.used ≤ old.counter.limit - old.counter.used = fewer_left h old one g1 in
+    (omega (arith, fewer), (c.requires.depth, ((can_grown h old one g1 hyps c.args.t c.requires.can), rewritten_now h hyps old one c.args.t c.in_ok-whole.whole g1 c.requires.can c.in_ok-whole.ensures.ok)))
+
+pub selecting::rewrite_asked_opened-returns-clause-ok : goal.selecting::rewrite_asked_opened-returns-clause-ok
+selecting::rewrite_asked_opened-returns-clause-ok t c =
+    let h : List Entry = c.args.history.now in
+    let hyps : List TermId = c.args.assumed.now in
+    let old : Work = c.args.work.now in
+    let one : Work = c.follow.new.work in
+    let g1 : WorkGrows h old one = c.follow.ensures.grows in
+    let two : Work = c.rewrite_on.new.work in
+    let g2 : WorkGrows h one two = c.rewrite_on.ensures.grows in
+    told_before h hyps old one two c.args.t c.rewrite_on.result g1 c.requires.can c.rewrite_on.ensures.ok
+
+pub selecting::rewrite_asked_opened-returns-clause-grows : goal.selecting::rewrite_asked_opened-returns-clause-grows
+selecting::rewrite_asked_opened-returns-clause-grows t c =
+    let h : List Entry = c.args.history.now in
+    let hyps : List TermId = c.args.assumed.now in
+    let old : Work = c.args.work.now in
+    let one : Work = c.follow.new.work in
+    let g1 : WorkGrows h old one = c.follow.ensures.grows in
+    let two : Work = c.rewrite_on.new.work in
+    let g2 : WorkGrows h one two = c.rewrite_on.ensures.grows in
+    (WorkGrows-trans h old one two g1 g2)
+
+pub selecting::rewrite_asked_body-returns-in_err-leave_question-clause-grows : goal.selecting::rewrite_asked_body-returns-in_err-leave_question-clause-grows
+selecting::rewrite_asked_body-returns-in_err-leave_question-clause-grows t c =
+    WorkGrows-refl c.args.history.now c.args.work.now c.requires.can.stands
+
+pub selecting::rewrite_asked_body-returns-then-not-tells-clause-grows : goal.selecting::rewrite_asked_body-returns-then-not-tells-clause-grows
+selecting::rewrite_asked_body-returns-then-not-tells-clause-grows t c =
+    WorkGrows-refl c.args.history.now c.args.work.now c.requires.can.stands

@@ -12,9 +12,9 @@ use Rattle.nq_waterfall.specs.declared.trail.Trail.{Trail}
 use Rattle.nq_event.specs.EventsAt.{hints_at}
 use Rattle.nq_waterfall.specs.Trails.{TrailStands, StepStands, AncestorStands, steps_at, above_at}
 use Rattle.nq_waterfall.specs.Solved.{NextGoesOn, TrailGoesOn}
-use Rattle.nq_waterfall.specs.Ready.{CanMove, IsGoalIn}
-use Rattle.nq_waterfall.proofs.SameLemmas.{ready_grown, goal_grown, goals_grown, trail_grown, path_grown, goal_stands}
-use Rattle.nq_waterfall.proofs.SolvingLemmas.{same_trail, trace_same, trail_after, pushed_stand, path_pushed, found_in, turn_at, next_down, next_trace, move_grown}
+use Rattle.nq_waterfall.specs.Ready.{CanMove, IsGoalIn, IsPathIn}
+use Rattle.nq_waterfall.proofs.SameLemmas.{ready_grown, goal_grown, goals_grown, trail_grown, path_grown, path_in_grown, goal_stands}
+use Rattle.nq_waterfall.proofs.SolvingLemmas.{same_trail, trace_same, trail_after, pushed_stand, path_pushed, path_in_pushed, found_in, turn_at, next_down, next_trace, move_grown}
 use Rattle.nq_follow.proofs.FollowLemmas.{next_goes}
 use Rattle.nq_follow.proofs.following.+following.Goals as goal
 
@@ -31,6 +31,10 @@ follow-lead-requires-clause-goal g t c = goal_grown c.args.history.now c.args.wo
 pub follow-lead-requires-clause-path : goal.follow-lead-requires-clause-path
 follow-lead-requires-clause-path g t c =
     subst (All (AncestorStands c.enter.new.work.bank)) (sym c.as_slice.ensures.value) (path_grown c.args.work.now.bank c.enter.new.work.bank c.enter.ensures.grows.bank c.args.trail.now.path.items c.requires.trail.path)
+
+pub follow-lead-requires-clause-path_in : goal.follow-lead-requires-clause-path_in
+follow-lead-requires-clause-path_in g t c =
+    subst (IsPathIn c.args.history.now c.enter.new.work) (sym c.as_slice.ensures.value) (path_in_grown c.args.history.now c.args.work.now c.enter.new.work c.requires.ready.stands c.enter.ensures.grows c.args.trail.now.path.items c.requires.path_in)
 
 pub follow-returns-in_err-lead-clause-grows : goal.follow-returns-in_err-lead-clause-grows
 follow-returns-in_err-lead-clause-grows g t c = WorkGrows-trans c.args.history.now c.args.work.now c.enter.new.work c.lead.new.work c.enter.ensures.grows c.lead.ensures.grows
@@ -68,6 +72,7 @@ follow-follow_nexts-requires g t c =
     let ready : CanMove h c.args.hints.now new = ready_grown h old new c.requires.ready.stands up c.holding.ensures c.args.hints.now c.requires.ready in
     let trail : TrailStands new.bank c.args.trail.now = trail_grown old.bank new.bank up.bank c.args.trail.now c.requires.trail in
     let inside : IsGoalIn h new c.args.goal.now = goal_grown h old new c.requires.ready.stands up c.args.goal.now c.requires.goal in
+    let above : IsPathIn h new c.args.trail.now.path.items = path_in_grown h old new c.requires.ready.stands up c.args.trail.now.path.items c.requires.path_in in
     let used : c.enter.new.work.counter.used ≤ new.counter.used = c.lead.ensures.grows.counter.used in
     let limit : new.counter.limit ≡ old.counter.limit = up.counter.limit in
     let counted = c.in_ok-enter.ensures.counted in
@@ -88,6 +93,7 @@ follow_next-follow-requires g t c =
     let trace : All (StepStands bank) c.add_step.new.steps.items = pushed_stand bank c.args.trail.now.trace.items c.add_step.new.steps.items c.args.number c.args.kind c.args.next.now c.in_ok-here.ensures.ok c.requires.trail.trace here in
     let trail : TrailStands bank (record { path = c.args.trail.now.path; steps = c.args.trail.now.steps; trace = c.add_step.new.steps }) = record { path = c.requires.trail.path; steps = c.requires.trail.steps; trace = trace } in
     let ready = c.requires.ready in
+    let above = c.requires.path_in in
     let next = c.requires.next in
     search rules
 
@@ -125,6 +131,9 @@ follow_nexts-follow_next-requires g t c =
     let up : WorkGrows h old new = c.loop-next.invariant.grows in
     let ready : CanMove h c.args.hints.now new = ready_grown h old new c.requires.ready.stands up c.holding.ensures c.args.hints.now c.requires.ready in
     let stands = c.loop-next.invariant.stands in
+    let above : IsPathIn h new c.loop-next.trail.path.items =
+    path_in_pushed h new c.args.trail.now.path.items c.loop-next.trail.path.items c.args.goal.now c.args.lead.now.kind c.loop-next.invariant.path
+    (path_in_grown h old new c.requires.ready.stands up c.args.trail.now.path.items c.requires.path_in) (goal_grown h old new c.requires.ready.stands up c.args.goal.now c.requires.goal) in
     let depth = c.requires.depth in
     let used = up.counter.used in
     let limit = up.counter.limit in

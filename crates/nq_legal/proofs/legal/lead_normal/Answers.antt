@@ -26,4 +26,4 @@ pub lead_unmoved-requires-clause-none : goal.lead_unmoved-requires-clause-none
 lead_unmoved-requires-clause-none g c = when_none _ _ _ c.in-None.is c.in_ok-lead.ensures.legal
 
 pub returns-in-Some-clause-turn : goal.returns-in-Some-clause-turn
-returns-in-Some-clause-turn g c = when_some _ _ _ c.in-Some.lead c.in-Some.is c.in_ok-lead.ensures.legal c.args.path.now
+returns-in-Some-clause-turn g c = when_some _ _ _ c.in-Some.lead c.in-Some.is c.in_ok-lead.ensures.legal

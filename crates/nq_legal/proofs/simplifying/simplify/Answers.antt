@@ -14,7 +14,7 @@ lead_if_plain-requires-clause-ready g c = ready_grown c.args.history.now c.args.
 pub lead_if_plain-requires-clause-goal : goal.lead_if_plain-requires-clause-goal
 lead_if_plain-requires-clause-goal g c = goal_grown c.args.history.now c.args.work.now c.simplified.new.work c.requires.ready.stands c.simplified.ensures.grows c.args.goal.now c.requires.goal
 
-pub lead_if_plain-requires-clause-simplified : goal.lead_if_plain-requires-clause-simplified
-lead_if_plain-requires-clause-simplified g c =
+pub thinned-requires : goal.thinned-requires
+thinned-requires g c =
     subst (λ (x : Clause). IsSimplified c.args.history.now c.simplified.new.work x c.in_ok-simplified.simplified)
     (sym (terms_at-grown c.args.work.now.bank c.simplified.new.work.bank c.args.goal.now c.simplified.ensures.grows.bank (goal_stands c.args.history.now c.args.work.now c.args.goal.now c.requires.goal))) c.in_ok-simplified.ensures.simplified

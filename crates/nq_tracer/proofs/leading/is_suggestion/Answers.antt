@@ -17,7 +17,7 @@ returns c =
     let measure = term_at bank c.args.measure in
     IfOk-weaker c.suggests.result (λ b. (e : logic.Definition) → e.formals ≡ texts_at bank d.formals.now → b ≡ suggests_by e (Some measure) arguments) (λ b. b ≡ true → IsSuggestedBy bank d c.args.measure c.args.t c.args.arguments.now)
     (λ b told holds. record {
-      usable = c.is_usable.ensures c.if-not-is_usable.false;
+      apart = c.is_apart.ensures c.if-not-is_apart.false;
       count = c.if-arguments-definition.false;
       call = c.is_call.ensures c.if-not-is_call.false;
       suggests = sym (told (definition_at bank d) refl) ∙ holds;

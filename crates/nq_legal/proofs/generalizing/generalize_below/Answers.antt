@@ -1,0 +1,17 @@
+use Rattle.nq_waterfall.proofs.SameLemmas.{goal_grown}
+use Rattle.nq_legal.proofs.GeneralizingLemmas.{generalization_leads, no_generalization}
+use Rattle.nq_legal.proofs.MovingLemmas.{when_none, when_some}
+use Rattle.nq_legal.proofs.generalizing.generalize_below.Goals as goal
+
+pub lead_below-requires-clause-goal : goal.lead_below-requires-clause-goal
+lead_below-requires-clause-goal c = goal_grown c.args.history.now c.args.work.now c.generalize_move.new.work c.requires.ready.stands c.generalize_move.ensures.grows c.args.goal.now c.requires.goal
+
+pub lead_below-requires-clause-leads : goal.lead_below-requires-clause-leads
+lead_below-requires-clause-leads c =
+    generalization_leads c.args.history.now c.args.hints.now c.args.work.now c.generalize_move.new.work c.requires.ready c.generalize_move.ensures.grows c.args.path.now c.requires.path c.args.goal.now c.requires.goal c.args.above.now c.in-Some.moved c.requires.goals c.requires.normal
+    (when_some _ _ _ c.in-Some.moved c.in-Some.is c.in_ok-moved.ensures.legal)
+
+pub returns-in-None-clause-legal : goal.returns-in-None-clause-legal
+returns-in-None-clause-legal c =
+    no_generalization c.args.history.now c.args.hints.now c.args.work.now c.generalize_move.new.work c.requires.ready c.generalize_move.ensures.grows c.args.path.now c.requires.path c.args.goal.now c.requires.goal
+    (when_none _ _ _ c.in-None.is c.in_ok-moved.ensures.legal)
