@@ -177,7 +177,7 @@ fn by_facts(
     with_facts(work, history, goal, assumptions.as_slice())
 }
 
-/// The line of a goal with what is told and with facts by lemmas too, where lemmas speak of its terms.
+/// The line of a goal with what is told and with facts by lemmas too.
 fn by_lemmas(
     work: &mut Work,
     history: &History,
@@ -194,9 +194,6 @@ fn by_lemmas(
     ensures out { result ≡ Err Stop.OutOfSteps → work.new.counter.used ≡ work.new.counter.limit }
 {
     let instances = instances_of(work, history, hints, goal)?;
-    if instances.len() == 0 {
-        return Ok(None);
-    }
     let all = with_told(work, history, told, instances.as_slice())?;
     by_facts(work, history, goal, all.as_slice())
 }
@@ -227,7 +224,7 @@ pub fn arithmetic_line(
     }
 }
 
-/// The same, and where none is found so, with facts by enabled lemmas of the history too.
+/// The same, with facts by enabled lemmas of the history too.
 pub fn arithmetic_line_by_lemmas(
     work: &mut Work,
     history: &History,
@@ -246,8 +243,8 @@ pub fn arithmetic_line_by_lemmas(
     if hints.no_arith {
         return Ok(None);
     }
-    match arithmetic_line(work, history, hints, goal, told)? {
-        Some(line) => Ok(Some(line)),
+    match refuted(work, history, goal)? {
+        Some(line) => Ok(checked(work, history, goal, line)),
         None => by_lemmas(work, history, hints, goal, told),
     }
 }

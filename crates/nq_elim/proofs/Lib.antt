@@ -10,3 +10,4 @@ pub mod WayLemmas
 pub mod CutLemmas
 pub mod ClosingLemmas
 pub mod FactLemmas
+pub mod KindLemmas

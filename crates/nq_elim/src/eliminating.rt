@@ -13,6 +13,7 @@ ghost use Rattle.nq_elim.specs.Reasons.{FactHolds, IsReason};
 
 use crate::candidates::{Candidate, candidates_of, ranked};
 use crate::destructors::{destructor_calls, equation_among};
+use crate::kinds::with_kinds;
 use crate::making::{Elimination, eliminated};
 use crate::reasons::{Reason, is_futile, reason_beside, reason_of};
 use crate::rows::{literals_of, shell_line};
@@ -23,7 +24,7 @@ use nq_lines::Fact;
 use nq_ready::own_terms;
 
 /// The elimination for a reason. It is none where the goal is one of its cases.
-fn by_reason(
+pub fn by_reason(
     work: &mut Work,
     history: &History,
     hints: &Hints,
@@ -31,6 +32,7 @@ fn by_reason(
     reason: Reason,
 ) -> Result<Option<Elimination>, Stop>
     requires stands { WorkStands history.now work.old }
+    requires ready { HasOwnTerms (events_at work.old.bank history.now) }
     requires goal { All (IsTermIn history.now work.old) goal.now }
     requires reason { IsReason history.now work.old goal.now reason }
     ensures way { IfOk result (λ found. IfSome found (IsEliminationWay history.now work.new goal.now)) }
@@ -41,6 +43,7 @@ fn by_reason(
         return Ok(None);
     }
     let calls = destructor_calls(work, history, reason.equation)?;
+    let reason = with_kinds(work, history, goal, reason, calls.as_slice())?;
     eliminated(work, history, hints, goal, reason, calls.as_slice())
 }
 
@@ -55,6 +58,7 @@ fn by_equation(
     equation: TermId,
 ) -> Result<Option<Elimination>, Stop>
     requires stands { WorkStands history.now work.old }
+    requires ready { HasOwnTerms (events_at work.old.bank history.now) }
     requires goal { All (IsTermIn history.now work.old) goal.now }
     requires literals { AreLiterals history.now work.old line literals.now }
     requires equation { IsTermIn history.now work.old equation }
@@ -78,6 +82,7 @@ fn by_literals(
     literals: &[TermId],
 ) -> Result<Option<Elimination>, Stop>
     requires stands { WorkStands history.now work.old }
+    requires ready { HasOwnTerms (events_at work.old.bank history.now) }
     requires goal { All (IsTermIn history.now work.old) goal.now }
     requires literals { AreLiterals history.now work.old line literals.now }
     ensures way { IfOk result (λ found. IfSome found (IsEliminationWay history.now work.new goal.now)) }
@@ -99,6 +104,7 @@ fn by_line(
     line: u64,
 ) -> Result<Option<Elimination>, Stop>
     requires stands { WorkStands history.now work.old }
+    requires ready { HasOwnTerms (events_at work.old.bank history.now) }
     requires goal { All (IsTermIn history.now work.old) goal.now }
     requires line { LineIsIn history.now work.old line }
     ensures way { IfOk result (λ found. IfSome found (IsEliminationWay history.now work.new goal.now)) }

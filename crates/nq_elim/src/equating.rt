@@ -21,7 +21,7 @@ use nq_kernel::{Stop, Work};
 use nq_lines::{Fact, Sides, deny, equate};
 
 /// A term that linear arithmetic shows beside a goal.
-fn fact_beside(
+pub fn fact_beside(
     work: &mut Work,
     history: &History,
     hints: &Hints,

@@ -1,6 +1,6 @@
 //! Why a variable can give way: a line with the equation that says what it is, and with literals of which each is a case or stands in
 //! the goal.
-ghost use Rattle.std.specs.Prelude.{◌≡◌, ◌∷◌, [], All, IfOk, IfSome, IsTrue, Err};
+ghost use Rattle.std.specs.Prelude.{◌≡◌, ◌∷◌, ◌++◌, [], All, IfOk, IfSome, IsTrue, Err};
 ghost use Rattle.nq_bank.specs.Content.{term_at, terms_at};
 ghost use Rattle.nq_kernel.specs.Growing.{WorkStands, WorkGrows};
 ghost use Rattle.nq_lines.specs.Lines.{IsTermIn, LineHasOnly};
@@ -166,6 +166,33 @@ pub fn reason_beside(
     let rest = joined(alloc, &[], goal)?;
     let facts = one_fact(alloc, fact)?;
     let cases = Vec::new(alloc);
+    Ok(Reason {
+        equation: fact.term,
+        facts,
+        cases,
+        rest,
+    })
+}
+
+/// The reason of an equation that a line shows beside these literals and the goal. The literals are its cases.
+pub fn reason_where(
+    work: &mut Work,
+    history: &History,
+    goal: &[TermId],
+    more: &[TermId],
+    fact: Fact,
+) -> Result<Reason, Stop>
+    requires stands { WorkStands history.now work.old }
+    requires goal { All (IsTermIn history.now work.old) goal.now }
+    requires more { All (IsTermIn history.now work.old) more.now }
+    requires fact { FactHolds history.now work.old (terms_at work.old.bank (more.now ++ goal.now)) fact }
+    ensures reason { IfOk result (IsReason history.now work.new goal.now) }
+    ensures grows { WorkGrows history.now work.old work.new }
+    ensures out { result ≡ Err Stop.OutOfSteps → work.new.counter.used ≡ work.new.counter.limit }
+{
+    let rest = joined(work.bank.alloc(), more, goal)?;
+    let cases = cases_of(work, history, more)?;
+    let facts = one_fact(work.bank.alloc(), fact)?;
     Ok(Reason {
         equation: fact.term,
         facts,

@@ -1,5 +1,5 @@
 -- What the calls of a goal access.
-use Rattle.std.proofs.Common.{◌≡◌, ◌<◌, ◌≤◌, ◌+◌, ◌-◌, ℕ, zero, suc, Bool, true, false, ◌||◌, ◌&&◌, Option, Some, None, List, [], ◌∷◌, ◌++◌, length, map, take, drop, get_or, refl, sym, ap, ◌∙◌, subst, inl, inr, arith}
+use Rattle.std.proofs.Common.{◌≡◌, ◌<◌, ◌+◌, ℕ, Bool, true, false, ◌||◌, ◌&&◌, Option, Some, None, List, ◌∷◌, length, map, drop, get_or, refl, sym, ap, ◌∙◌, subst, inr}
 use Rattle.std.specs.Prelude.{MatchOption, Result, Ok, Err, IfOk}
 use Rattle.nq_kernel.specs.declared.work.Stop.{Stop}
 use Rattle.nq_logic.specs.Histories.{History}
@@ -8,7 +8,7 @@ use Rattle.nq_stuck.specs.Calls.{HoldsAll}
 use Rattle.nq_eliminate.proofs.ShellLemmas.{candidate_found, none_found}
 use Rattle.std.specs.List.{list_any}
 use Rattle.std.proofs.lemmas.List.{at_drop_more}
-use Rattle.nq_logic.specs.Terms.{Name, Term, Variable, Function, Applied, IsAmong}
+use Rattle.nq_logic.specs.Terms.{Name, Term, Function, Applied, IsAmong}
 use Rattle.nq_logic.specs.Names.{has_name}
 use Rattle.nq_logic.specs.Histories.{Shell as ShellOfTexts}
 use Rattle.nq_logic.specs.Values.{is_value}
@@ -16,10 +16,9 @@ use Rattle.nq_bank.specs.declared.node.TermId.{TermId}
 use Rattle.nq_bank.specs.declared.shell.Shell.{Shell}
 use Rattle.nq_bank.specs.declared.shell.Part.{Part}
 use Rattle.nq_bank.specs.Content.{Content, term_at, terms_at}
-use Rattle.nq_bank.specs.Shells.{parts_at, shell_at, shells_at, ShellStands}
+use Rattle.nq_bank.specs.Shells.{parts_at, shell_at, shells_at}
 use Rattle.nq_proof.specs.Clauses.{Clause}
 use Rattle.nq_goals.specs.Functions.{accessors}
-use Rattle.nq_goals.specs.Replacing.{stands_in_one}
 use Rattle.nq_stuck.specs.Destructors.{is_accessor_call, is_variable}
 use Rattle.nq_stuck.proofs.Names.{accessors_later}
 use Rattle.nq_stuck.proofs.EliminationLemmas.{call_no_value}

@@ -1,26 +1,19 @@
 -- Each candidate of ELIM has one in the list, and what the list has are candidates.
-use Rattle.std.proofs.Common.{◌≡◌, ◌<◌, ◌≤◌, ℕ, suc, Bool, true, false, ◌||◌, ◌&&◌, if◌then◌else◌, Option, Some, None, List, [], ◌∷◌, ◌++◌, length, map, refl, sym, ap, ◌∙◌, subst, inl, inr, arith}
+use Rattle.std.proofs.Common.{◌≡◌, Bool, true, false, ◌||◌, ◌&&◌, if◌then◌else◌, List, [], ◌∷◌, map, refl, sym, ap, ◌∙◌, inl, inr}
 use Rattle.std.specs.Prelude.{bytes_eq, not, ◌⊎◌}
-use Rattle.nq_logic.specs.Terms.{Name, Term, Variable, IsAmong, Substitution, substituted, value_at}
-use Rattle.nq_logic.specs.Histories.{History}
-use Rattle.nq_logic.specs.Names.{has_name}
+use Rattle.nq_logic.specs.Terms.{Name, Term, IsAmong}
 use Rattle.nq_logic.specs.RuleShapes.{has_argument, has_distinct_variables, is_destructor_call, variables_of}
 use Rattle.nq_bank.proofs.Texts.{bytes_eq-true, eq-bytes_eq}
-use Rattle.nq_proof.specs.Clauses.{Clause, distinct, has_term, same_term}
+use Rattle.nq_proof.specs.Clauses.{Clause, has_term, same_term}
 use Rattle.nq_proof.proofs.Tests.{same_true}
 use Rattle.nq_rule.proofs.LiteralLemmas.{true_same}
 use Rattle.nq_lines.proofs.LineLemmas.{from_distinct}
-use Rattle.nq_events.specs.Events.{Hints}
-use Rattle.nq_goals.specs.Eliminating.{ElimRule, Eliminating, EliminateCandidate, arguments_paired, can_eliminate, destructors, destructors_of, distinct_names, elim_rules, elimination_of, eliminations_of, filled, from_calls, from_destructors, from_rules, is_renamed, name_in, named_by, names_for, no_copies, one_stands, other_variables, renaming, renaming_of, without_name}
+use Rattle.nq_goals.specs.Eliminating.{ElimRule, destructors, distinct_names, no_copies, one_stands, other_variables, without_name}
 use Rattle.nq_goals.specs.Generalizing.{chosen_from}
-use Rattle.nq_goals.specs.NewVariables.{clause_variables, new_variables}
-use Rattle.nq_goals.specs.Replacing.{parts_in, parts_in_all, stands_in_one}
-use Rattle.nq_stuck.proofs.StandingLemmas.{one_among, one_of}
-use Rattle.nq_moves.specs.Laws.{AreNewNames}
-use Rattle.nq_moves.proofs.NewLemmas.{new_names}
-use Rattle.nq_eliminate.proofs.Names.{agree, among_either, among_first, among_has, among_second, goal_variables, has_among, part_variables, renamed_value, same_name, same_some, value_among}
-use Rattle.nq_eliminate.proofs.Flat.{Renames, argument_variable, found_stands, found_value, has_pair, is_renamed_by, pairs_of, same_made}
-use Rattle.nq_eliminate.proofs.Fresh.{FromCall, Pairs, Source, fresh_same, name_from, source, none_some, passed_on, value_here, value_later}
+use Rattle.nq_goals.specs.NewVariables.{clause_variables}
+use Rattle.nq_goals.specs.Replacing.{parts_in, stands_in_one}
+use Rattle.nq_stuck.proofs.StandingLemmas.{one_of}
+use Rattle.nq_eliminate.proofs.Names.{among_first, part_variables}
 
 -- names without one of them
 pub apart_from : (x v : Name) (ys : List Name) → IsAmong x (without_name v ys) → bytes_eq x v ≡ false

@@ -1,12 +1,12 @@
 -- Calls of variables alone, and what a renaming makes of them.
-use Rattle.std.proofs.Common.{◌≡◌, ℕ, Bool, true, false, ◌||◌, ◌&&◌, if◌then◌else◌, Option, Some, None, List, [], ◌∷◌, ◌++◌, refl, sym, ap, ◌∙◌, subst, inl, inr}
+use Rattle.std.proofs.Common.{◌≡◌, ℕ, Bool, true, false, ◌||◌, ◌&&◌, if◌then◌else◌, Some, List, [], ◌∷◌, ◌++◌, refl, sym, ap, ◌∙◌, subst, inl, inr}
 use Rattle.std.specs.Prelude.{bytes_eq, not}
 use Rattle.nq_logic.specs.Terms.{Name, Term, Variable, Function, Applied, IsAmong, Substitution, substituted, value_at}
 use Rattle.nq_logic.specs.Names.{has_name}
 use Rattle.nq_logic.specs.RuleShapes.{has_argument, has_distinct_variables, variables_of}
 use Rattle.nq_bank.proofs.Texts.{bytes_eq-true, eq-bytes_eq}
 use Rattle.nq_goals.specs.Eliminating.{arguments_paired, is_renamed, name_in}
-use Rattle.nq_eliminate.proofs.Names.{IsVariableTerm, among_either, among_first, among_second, same_name, same_some}
+use Rattle.nq_eliminate.proofs.Names.{IsVariableTerm, among_either, among_first, among_second, same_some}
 
 pub second_true : (a b : Bool) → (a && b) ≡ true → b ≡ true
 second_true true b e = e

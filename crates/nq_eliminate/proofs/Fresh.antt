@@ -1,7 +1,7 @@
 -- Names for a rule's variables: those of a call, and new ones for the others.
-use Rattle.std.proofs.Common.{◌≡◌, ◌<◌, ◌≤◌, ℕ, suc, Bool, true, false, if◌then◌else◌, Option, Some, None, List, [], ◌∷◌, length, refl, sym, ap, ◌∙◌, subst, inl, inr, arith}
+use Rattle.std.proofs.Common.{◌≡◌, ◌≤◌, ℕ, suc, Bool, true, false, if◌then◌else◌, Option, Some, None, List, [], ◌∷◌, length, refl, sym, ap, ◌∙◌, subst, inl, inr, arith}
 use Rattle.std.specs.Prelude.{bytes_eq, ◌⊎◌}
-use Rattle.nq_logic.specs.Terms.{Name, Term, Variable, IsAmong, Substitution, value_at}
+use Rattle.nq_logic.specs.Terms.{Name, Variable, IsAmong, Substitution, value_at}
 use Rattle.nq_logic.specs.Admissible.{AreDistinct}
 use Rattle.nq_bank.proofs.Texts.{bytes_eq-true, eq-bytes_eq}
 use Rattle.nq_goals.specs.Eliminating.{name_in, named_by, names_for, renaming}

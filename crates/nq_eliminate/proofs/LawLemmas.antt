@@ -1,6 +1,6 @@
 -- Each candidate of ELIM has one in the list.
-use Rattle.std.proofs.Common.{◌≡◌, ◌<◌, ◌≤◌, ℕ, suc, Bool, true, false, ◌||◌, ◌&&◌, if◌then◌else◌, Option, Some, None, List, [], ◌∷◌, ◌++◌, length, map, refl, sym, ap, ◌∙◌, subst, inl, inr, arith}
-use Rattle.std.specs.Prelude.{bytes_eq, not, ◌⊎◌}
+use Rattle.std.proofs.Common.{◌≡◌, ◌≤◌, ℕ, suc, Bool, true, false, ◌&&◌, if◌then◌else◌, Option, Some, None, List, [], ◌∷◌, length, refl, sym, ap, ◌∙◌, subst, inl, inr, arith}
+use Rattle.std.specs.Prelude.{bytes_eq, not}
 use Rattle.nq_logic.specs.Terms.{Name, Term, Variable, IsAmong, Substitution, substituted, value_at}
 use Rattle.nq_logic.specs.Histories.{History}
 use Rattle.nq_logic.specs.Names.{has_name}
@@ -15,8 +15,8 @@ use Rattle.nq_stuck.proofs.StandingLemmas.{one_among}
 use Rattle.nq_moves.specs.Laws.{AreNewNames}
 use Rattle.nq_moves.proofs.NewLemmas.{new_names}
 use Rattle.nq_eliminate.specs.Laws.{ListedAreCandidates, NoneIsNone}
-use Rattle.nq_eliminate.proofs.Names.{agree, among_either, among_first, among_has, among_second, goal_variables, has_among, renamed_value, same_name, same_some, value_among}
-use Rattle.nq_eliminate.proofs.Flat.{HasPair, Renames, argument_variable, found_stands, found_value, has_pair, is_renamed_by, pairs_of, same_made}
+use Rattle.nq_eliminate.proofs.Names.{agree, among_either, among_first, among_has, among_second, goal_variables, has_among, renamed_value, same_name, value_among}
+use Rattle.nq_eliminate.proofs.Flat.{HasPair, Renames, argument_variable, found_stands, found_value, has_pair, is_renamed_by, same_made}
 use Rattle.nq_eliminate.proofs.Fresh.{FromCall, Pairs, Source, told, fresh, fresh_same, name_from, source, none_some, passed_on, value_here, value_later}
 use Rattle.nq_eliminate.proofs.CandidateLemmas.{IsDestructor, IsOfRule, Standing, apart_from, apart_too, both_true, destructor_is, of_rule, stands_there, standing}
 

@@ -1,4 +1,5 @@
 pub mod Names
+pub mod LiteralLemmas
 pub mod Flat
 pub mod Fresh
 pub mod CandidateLemmas
@@ -6,3 +7,12 @@ pub mod LawLemmas
 pub mod ShellLemmas
 pub mod MadeLemmas
 pub mod AccessLemmas
+pub mod RowLemmas
+pub mod PlainLemmas
+pub mod KnownLemmas
+pub mod MakingLemmas
+pub mod OverLemmas
+pub mod InstanceLemmas
+pub mod ShellSteps
+pub mod SufficingLemmas
+pub mod CallingLemmas

@@ -1,16 +1,15 @@
 -- What an elimination by the rule of a shell puts in the places of the destructor calls and of the variable.
-use Rattle.std.proofs.Common.{◌≡◌, ℕ, Bool, true, false, ◌||◌, ◌&&◌, if◌then◌else◌, List, [], ◌∷◌, ◌++◌, length, map, refl, sym, ap, ◌∙◌, subst, inl, inr}
-use Rattle.std.specs.Prelude.{Option, Some, None, bytes_eq, codes, not}
-use Rattle.nq_logic.specs.Terms.{Name, Term, Variable, Function, Applied, applied, call, substituted, value_at, IsAmong, Substitution}
+use Rattle.std.proofs.Common.{◌≡◌, ℕ, Bool, true, false, ◌&&◌, if◌then◌else◌, List, [], ◌∷◌, map, refl, sym, ap, ◌∙◌, inl, inr}
+use Rattle.std.specs.Prelude.{Option, Some, None, bytes_eq, codes}
+use Rattle.nq_logic.specs.Terms.{Name, Term, Variable, Function, Applied, applied, call, substituted, IsAmong, Substitution}
 use Rattle.nq_logic.specs.Histories.{Shell, Part}
-use Rattle.nq_logic.specs.Words.{not_term, equal_term}
 use Rattle.nq_logic.specs.Shells.{whole, remade, recognizes, accessed}
-use Rattle.nq_logic.specs.RuleShapes.{inner_terms, is_destructor_call, variables_of}
+use Rattle.nq_logic.specs.RuleShapes.{inner_terms, is_destructor_call}
 use Rattle.nq_bank.proofs.Texts.{eq-bytes_eq}
-use Rattle.nq_proof.specs.Clauses.{Clause, distinct, has_term, same_term, without}
-use Rattle.nq_goals.specs.Eliminating.{ElimRule, Eliminating, destructors, destructors_of, has_parts, hypotheses_of, no_base, other_variables, renaming_of, whole_of}
+use Rattle.nq_proof.specs.Clauses.{Clause, distinct, same_term, without}
+use Rattle.nq_goals.specs.Eliminating.{destructors, destructors_of, has_parts, hypotheses_of, no_base, renaming_of, whole_of}
 use Rattle.nq_goals.specs.Generalizing.{chosen_from}
-use Rattle.nq_goals.specs.Replacing.{parts_in, parts_in_all}
+use Rattle.nq_goals.specs.Replacing.{parts_in_all}
 use Rattle.nq_stuck.proofs.CallLemmas.{inner_applied}
 use Rattle.nq_stuck.proofs.EliminationLemmas.{whole_not_distinct}
 use Rattle.nq_eliminate.specs.Shells.{eliminating_by, rule_of}

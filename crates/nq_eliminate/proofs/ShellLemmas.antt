@@ -1,8 +1,8 @@
 -- The candidates of ELIM by the rules of shells.
-use Rattle.std.proofs.Common.{◌≡◌, ℕ, Bool, true, false, ◌||◌, ◌&&◌, if◌then◌else◌, List, [], ◌∷◌, ◌++◌, length, map, refl, sym, ap, ◌∙◌, subst, inl, inr}
-use Rattle.std.specs.Prelude.{◌⊎◌, Option, Some, None, bytes_eq, codes, not}
+use Rattle.std.proofs.Common.{◌≡◌, Bool, true, false, ◌||◌, ◌&&◌, if◌then◌else◌, List, [], ◌∷◌, ◌++◌, length, map, refl, sym, ap, ◌∙◌, subst, inl, inr}
+use Rattle.std.specs.Prelude.{Option, Some, None, bytes_eq, codes, not}
 use Rattle.std.specs.List.{list_any}
-use Rattle.nq_logic.specs.Terms.{Name, Term, Variable, Function, Applied, applied, call, substituted, value_at, IsAmong, Substitution}
+use Rattle.nq_logic.specs.Terms.{Name, Term, Variable, Function, Applied, applied, substituted, IsAmong, Substitution}
 use Rattle.nq_logic.specs.Histories.{History, Shell, Part, Event, AddShell, Declaration, Defines, Axiom, Lemma, Toggle, events_shells}
 use Rattle.nq_logic.specs.Ground.{all_events}
 use Rattle.nq_logic.specs.Names.{has_name}
@@ -16,7 +16,7 @@ use Rattle.nq_bank.proofs.Texts.{bytes_eq-true, eq-bytes_eq}
 use Rattle.nq_proof.specs.Clauses.{Clause, distinct, has_term, same_term, without}
 use Rattle.nq_proof.proofs.Tests.{same_true}
 use Rattle.nq_events.specs.Events.{Hints}
-use Rattle.nq_goals.specs.Eliminating.{ElimRule, Eliminating, EliminateCandidate, destructors, destructors_of, distinct_names, elim_rules, event_rules, events_rules, has_parts, no_base, no_copies, one_stands, other_variables, renaming, renaming_of, shell_rules, without_name}
+use Rattle.nq_goals.specs.Eliminating.{ElimRule, EliminateCandidate, destructors, destructors_of, distinct_names, event_rules, events_rules, has_parts, no_base, no_copies, other_variables, renaming_of, shell_rules, without_name}
 use Rattle.nq_goals.specs.Functions.{accessors}
 use Rattle.nq_goals.specs.Generalizing.{chosen_from}
 use Rattle.nq_goals.specs.NewVariables.{clause_variables}
@@ -27,9 +27,9 @@ use Rattle.nq_stuck.proofs.Joined.{among_either}
 use Rattle.nq_stuck.proofs.Names.{has_joined}
 use Rattle.nq_stuck.proofs.CallLemmas.{inner_applied}
 use Rattle.nq_stuck.proofs.StandingLemmas.{one_of, stands_found}
-use Rattle.nq_stuck.proofs.EliminationLemmas.{OfShell, AccessorOn, accessed_by, any_among, call_no_value, chosen_in, destructor_is, distinct_from}
+use Rattle.nq_stuck.proofs.EliminationLemmas.{AccessorOn, accessed_by, any_among, call_no_value, chosen_in, destructor_is, distinct_from}
 use Rattle.nq_eliminate.specs.declared.accesses.Access.{Access}
-use Rattle.nq_eliminate.specs.Shells.{HasNoneOfShells, IsAccess, IsAccessIn, IsShellCandidate, eliminating_by, is_access_in, rule_of, shells_rules}
+use Rattle.nq_eliminate.specs.Shells.{HasNoneOfShells, IsAccessIn, IsShellCandidate, eliminating_by, is_access_in, rule_of, shells_rules}
 use Rattle.nq_eliminate.proofs.Names.{among_first, among_second}
 use Rattle.nq_eliminate.proofs.CandidateLemmas.{apart_too, stands_there}
 
@@ -224,9 +224,25 @@ pub candidate_found : (bank : Content) (h : History) (goal : Clause) (a : Access
 candidate_found bank h goal a at =
     record {
       candidate = λ hints. candidate_of (shell_at bank a.shell.now) at.is.accessor at.is.shell.named (text_at bank a.variable) h hints goal at.is.shell.among (ap (λ t. stands_in_one t goal) (sym at.is.is) ∙ at.stands);
+      among = at.is.shell.among;
+      parts = named_parts at.is.accessor (map (λ part. part.accessor) (shell_at bank a.shell.now).parts) at.is.shell.named;
+      accessor = at.is.accessor;
+      called = ap (λ t. stands_in_one t goal) (sym at.is.is) ∙ at.stands;
       shell = at.is.shell.stands;
       variable = at.is.variable;
     }
+
+-- the rule of a shell with parts is among the rules of shells
+rule_among : (shells : List Shell) (s : Shell) → has_parts (map (λ part. part.accessor) s.parts) ≡ true → IsAmong s shells → IsAmong (rule_of s) (shells_rules shells)
+rule_among [] s some m = absurd m
+rule_among (t ∷ shells) s some (inl is) = among_first (rule_of s) (shell_rules t) (shells_rules shells) (subst (λ u. IsAmong (rule_of s) (shell_rules u)) is (subst (IsAmong (rule_of s)) (sym (shell_rule s some)) (inl refl)))
+rule_among (t ∷ shells) s some (inr m) = among_second (rule_of s) (shell_rules t) (shells_rules shells) (rule_among shells s some m)
+
+-- where there is a candidate of a shell, it is not so that there is none
+pub not_none : (bank : Content) (h : History) (hints : Hints) (goal : Clause) (a : Access) → IsShellCandidate bank h goal a → HasNoneOfShells h goal → ⊥
+not_none bank h hints goal a at none =
+    let s = shell_at bank a.shell.now in
+    none.none hints (eliminating_by s (text_at bank a.variable)) (rule_among (shells_of h) s at.parts at.among) (at.candidate hints)
 
 -- a rule of one of some shells
 record OfOne (shells : List Shell) (rule : ElimRule) : Type 0 where

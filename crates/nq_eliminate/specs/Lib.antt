@@ -1,3 +1,7 @@
 pub mod Laws
 pub mod Shells
+pub mod Calling
 pub mod Made
+pub mod Literals
+pub mod Instances
+pub mod Kept

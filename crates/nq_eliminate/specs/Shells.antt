@@ -1,5 +1,5 @@
 -- Eliminations by the rules of shells.
-use Rattle.std.specs.Prelude.{◌≡◌, ℕ, Bool, true, false, ◌&&◌, List, [], ◌∷◌, ◌++◌, map, codes}
+use Rattle.std.specs.Prelude.{◌≡◌, ℕ, Bool, true, ◌&&◌, List, [], ◌∷◌, ◌++◌, map, codes}
 use Rattle.nq_logic.specs.Terms.{Name, Term, Variable, Function, Applied, IsAmong}
 use Rattle.nq_logic.specs.Histories.{History, Shell as ShellOfTexts}
 use Rattle.nq_logic.specs.Names.{has_name}
@@ -7,10 +7,10 @@ use Rattle.nq_logic.specs.Shells.{whole, remade, recognizes}
 use Rattle.nq_logic.specs.ShellPrinciple.{shells_of}
 use Rattle.nq_bank.specs.declared.shell.Shell.{Shell}
 use Rattle.nq_bank.specs.Content.{Content, IsNamed, text_at}
-use Rattle.nq_bank.specs.Shells.{shell_at, shells_at, ShellStands}
+use Rattle.nq_bank.specs.Shells.{shell_at, ShellStands}
 use Rattle.nq_proof.specs.Clauses.{Clause}
 use Rattle.nq_events.specs.Events.{Hints}
-use Rattle.nq_goals.specs.Eliminating.{ElimRule, Eliminating, EliminateCandidate, no_base, shell_rules}
+use Rattle.nq_goals.specs.Eliminating.{ElimRule, Eliminating, EliminateCandidate, has_parts, no_base, shell_rules}
 use Rattle.nq_goals.specs.Replacing.{stands_in_one}
 use Rattle.nq_stuck.specs.Destructors.{is_accessor_call}
 use Rattle.nq_eliminate.specs.declared.accesses.Access.{Access}
@@ -54,8 +54,12 @@ pub record IsAccessIn (bank : Content) (shells : List ShellOfTexts) (goal : Clau
 abbrev pub is_access_in : List ShellOfTexts → Clause → Term → Bool
 is_access_in shells goal t = is_accessor_call shells t && stands_in_one t goal
 
--- a candidate of the goal by the rule of a shell, whatever the hints are
+-- a candidate of the goal by the rule of a shell with parts, whatever the hints are: an accessor's call on the variable stands in it
 pub record IsShellCandidate (bank : Content) (h : History) (goal : Clause) (a : Access) : Type 0 where
   pub candidate : (hints : Hints) → EliminateCandidate h hints goal (eliminating_by (shell_at bank a.shell.now) (text_at bank a.variable))
+  pub among : IsAmong (shell_at bank a.shell.now) (shells_of h)
+  pub parts : has_parts (map (λ part. part.accessor) (shell_at bank a.shell.now).parts) ≡ true
+  pub accessor : List ℕ
+  pub called : stands_in_one (Applied (Function accessor) (Variable (text_at bank a.variable))) goal ≡ true
   pub shell : ShellStands bank a.shell.now
   pub variable : IsNamed bank a.variable

@@ -12,14 +12,15 @@ ghost use Rattle.nq_giving_up.specs.Failing.{IsFailing};
 
 use crate::giving_up::{GivenUp, give_up_by};
 use nq_bank::{Bank, TermId};
+use nq_closer::SearchCloser;
 use nq_history::{Hints, History};
 use nq_inductor::OneCase;
-use nq_legal::{Legal, NoCloser};
+use nq_legal::Legal;
 use nq_literal::LiteralRewriter;
 use std::alloc::{AllocError, Global};
 
-/// What is told of a lemma by simplification, SUBST, FERT, GEN, IRR and inductions by one case, in work that begins with no step used
-/// and may take so many. Of a lemma that needs another move nothing is told.
+/// What is told of a lemma by simplification, SUBST, ELIM by the rules of shells, FERT, GEN, IRR and inductions by one case, in work
+/// that begins with no step used and may take so many. Goals whose inductions led to proved goals alone are closed by the free search.
 pub fn give_up(
     alloc: Global,
     bank: Bank,
@@ -38,7 +39,7 @@ pub fn give_up(
     ensures told { IfOk result (λ given. IsFailing steps (events_at bank history.now) (hints_at bank hints.now) (first_goal (events_at bank history.now) (hints_at bank hints.now) (term_at bank goal)) given.failing) }
 {
     let mut mover = Legal {
-        closer: NoCloser,
+        closer: SearchCloser,
         rewriter: LiteralRewriter {
             hints,
             until: u64::MAX,

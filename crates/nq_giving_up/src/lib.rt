@@ -10,6 +10,9 @@ mod giving_up;
 // the same by the legal mover
 mod legally;
 
+// a mover that is asked only so long
+mod bounded;
+
 // the trace of a lemma that was proved
 mod tracing;
 

@@ -14,6 +14,7 @@ ghost use Rattle.nq_answers.specs.Shown.{ShowsTrace};
 ghost use Rattle.nq_waterfall.specs.Ready.{CanMove, IsGoalIn};
 ghost use Rattle.nq_giving_up.specs.Tracing.{IsFollowed};
 
+use crate::bounded::Bounded;
 use crate::shown::shown_steps;
 use nq_bank::{Bank, Mark, TermId};
 use nq_comment::ShownStep;
@@ -31,6 +32,9 @@ use std::alloc::{AllocError, Global};
 
 /// The most steps that a trace takes. Of one that takes more, one induction is told.
 const TRACE_STEPS: u64 = 200_000;
+
+/// How many steps are used when a trace goes on to no further goals.
+const TRACED_STEPS: u64 = 20_000;
 
 /// The steps of a trace, if it is told, and the bank.
 #[derive(Drop)]
@@ -100,13 +104,16 @@ fn follow_lemma(
     holding();
     held_work();
     let mark = bank.mark();
-    let mut mover = Legal {
-        closer: NoCloser,
-        rewriter: LiteralRewriter {
-            hints,
-            until: u64::MAX,
+    let mut mover = Bounded {
+        mover: Legal {
+            closer: NoCloser,
+            rewriter: LiteralRewriter {
+                hints,
+                until: u64::MAX,
+            },
+            inductor: OneCase,
         },
-        inductor: OneCase,
+        until: TRACED_STEPS,
     };
     let mut work = Work::new(bank, Log::new(alloc), TRACE_STEPS);
     let Ok(first) = first_goal(&mut work.bank, history, hints, goal) else {
@@ -116,8 +123,8 @@ fn follow_lemma(
     Ok(given_back(followed, mark))
 }
 
-/// The steps of a trace from the first goal of a lemma: those of all moves of the legal mover, or, where these are too many, of one
-/// induction. A trace may be without steps. What it made in the bank is given back.
+/// The steps of a trace from the first goal of a lemma: those of the moves of the legal mover, as far as steps go, or, where one move
+/// takes too many, of one induction. A trace may be without steps. What it made in the bank is given back.
 pub fn trace_proof(
     alloc: Global,
     bank: Bank,

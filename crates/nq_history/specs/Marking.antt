@@ -1,7 +1,7 @@
 -- Marks of entries: each was taken just before its event.
-use Rattle.std.specs.Prelude.{◌≡◌, ℕ, ◌<◌, ◌≤◌, List, length, get_or, take, All}
+use Rattle.std.specs.Prelude.{◌≡◌, ℕ, ◌<◌, ◌≤◌, List, [], ◌∷◌, length, get_or, take, All}
 use Rattle.nq_bank.specs.Content.{Content, Grows}
-use Rattle.nq_bank.specs.Marks.{IsMarkOf}
+use Rattle.nq_bank.specs.Marks.{IsMarkOf, released}
 use Rattle.nq_history.specs.declared.entry.Entry.{Entry}
 use Rattle.nq_history.specs.Events.{EntryStands}
 
@@ -21,3 +21,8 @@ pub record IsMarked (bank : Content) (before : List Entry) (e : Entry) : Type 0 
 -- each entry keeps the mark that stood just before its event
 pub record AreMarked (bank : Content) (history : List Entry) : Type 0 where
   pub each : (i : ℕ) (e : Entry) → i < length history → e ≡ get_or history i e → IsMarked bank (take i history) e
+
+-- What is left of a bank when these events are undone: what it held below the mark of the first of them, or all where there is none.
+abbrev pub given_back : Content → List Entry → Content
+given_back bank [] = bank
+given_back bank (e ∷ entries) = released bank e.mark

@@ -1,5 +1,5 @@
 //! The history: its entries in order, and what is asked of it.
-ghost use Rattle.std.specs.Prelude.{◌≡◌, ◌<◌, ◌≤◌, [], ◌∷◌, ◌++◌, length, take, true, slice_index_or, IfOk, OnErr, OnOk, IfSome, All, None};
+ghost use Rattle.std.specs.Prelude.{◌≡◌, ◌<◌, ◌≤◌, [], ◌∷◌, ◌++◌, drop, length, take, true, slice_index_or, IfOk, OnErr, OnOk, IfSome, All, None};
 ghost use Rattle.std.specs.Option.{option_copied, option_map};
 ghost use Rattle.nq_logic.specs.Names.{before_event, is_enabled, is_in_use, looked_up, symbol_names};
 ghost use Rattle.nq_bank.specs.Soundness.{IsSound};
@@ -8,7 +8,7 @@ ghost use Rattle.nq_history.specs.declared.entry.Entry.{Entry};
 ghost use Rattle.nq_bank.specs.Content.{Content, Grows, Stands, IsNamed, text_at, term_at};
 ghost use Rattle.nq_proof.specs.Rules.{event_term};
 ghost use Rattle.nq_history.specs.Events.{all_events_at, event_at, events_at, ground_length, past_ground, EntryStands, HistoryStands, kind_term};
-ghost use Rattle.nq_history.specs.Marking.{AreMarked, IsMarked};
+ghost use Rattle.nq_history.specs.Marking.{given_back, AreMarked, IsMarked};
 ghost use Rattle.nq_history.specs.Lookups.{enabled_in, entries_before, entry_named, push_fault, undo_answer, undo_fault, IsAnswer, IsUndo};
 ghost use Rattle.nq_logic.specs.Ground.{ground_history, symbols_of};
 ghost use Rattle.nq_language.specs.Arities.{arity_in};
@@ -315,6 +315,9 @@ impl History {
         requires marked { AreMarked bank.old self.old }
         requires stands { HistoryStands bank.old self.old }
         ensures history { self.new ≡ take ground_length self.old }
+
+        // What the bank held below the mark of the first of them is left.
+        ensures bank { bank.new ≡ given_back bank.old (drop ground_length self.old) }
         ensures none { events_at bank.new self.new ≡ [] }
 
         // The entries left stand in the bank that is left.

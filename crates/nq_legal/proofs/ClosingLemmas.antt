@@ -1,6 +1,6 @@
 -- Lines of goals to which a move led, as the ways back ask for them.
 use Rattle.std.proofs.Common.{◌≡◌, ◌<◌, ℕ, zero, suc, List, [], ◌∷◌, length, get_or, refl, sym, ap, subst, arith}
-use Rattle.std.specs.Prelude.{All, IfSome, IsSome, Option, Result, Ok, Err, IfOk}
+use Rattle.std.specs.Prelude.{All, IfSome, IsSome, Option, None, Some, Result, Ok, Err, IfOk}
 use Rattle.nq_proof.specs.Clauses.{Clause}
 use Rattle.nq_kernel.specs.declared.work.Work.{Work}
 use Rattle.nq_kernel.specs.declared.work.Stop.{Stop}
@@ -62,6 +62,9 @@ pub way_closed : (old new : Work) (w : Way) (goal : Clause) (goals : List Clause
 way_closed old new w goal goals lines r leads h closes =
     if_ok r (λ n. ClosesTo old new w lines n) (λ n. LineHasOnly new n goal) (λ n closed. closed goal goals leads (only_lines old goals lines h)) closes
 
--- a line of the goal is one of the same goal
-pub line_there : (new : Work) (here there : Clause) (r : Result (Option ℕ) Stop) → there ≡ here → IfOk r (λ found. IfSome found (λ n. LineHasOnly new n here)) → IfOk r (λ found. IfSome found (λ n. LineHasOnly new n there))
-line_there new here there r e h = subst (λ (c : Clause). IfOk r (λ found. IfSome found (λ n. LineHasOnly new n c))) (sym e) h
+-- a line that was found of the goal is one of the same goal
+pub line_told : (work : Work) (here there : Clause) (found : Option ℕ) (n : ℕ) → there ≡ here → IfSome found (λ n. LineHasOnly work n here) → found ≡ Some n → LineHasOnly work n there
+line_told work here there None n e h is = absurd (cc)
+line_told work here there (Some m) n e h is =
+    let same : m ≡ n = cc in
+    subst (λ (k : ℕ). LineHasOnly work k there) same (subst (LineHasOnly work m) (sym e) h)

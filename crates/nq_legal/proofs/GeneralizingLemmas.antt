@@ -1,5 +1,5 @@
--- Moves of GEN below other goals.
-use Rattle.std.proofs.Common.{◌≡◌, ◌<◌, ℕ, zero, suc, List, [], ◌∷◌, ◌++◌, map, get_or, length, refl, sym, ap, ap₂, ◌∙◌, subst, arith}
+-- Moves of GEN and ELIM below other goals.
+use Rattle.std.proofs.Common.{◌≡◌, List, [], ◌∷◌, ◌++◌, refl, sym, ap, ap₂, ◌∙◌, subst}
 use Rattle.std.specs.Prelude.{All, Vec}
 use Rattle.std.specs.declared.alloc.Global.{Global}
 use Rattle.std.proofs.lemmas.List.{append_assoc}
@@ -18,7 +18,10 @@ use Rattle.nq_kernel.specs.declared.verdict.MoveKind.TheVariants as kind
 use Rattle.nq_kernel.specs.Growing.{WorkGrows}
 use Rattle.nq_goals.specs.Paths.{Above, goals_above}
 use Rattle.nq_goals.specs.Generalizing.{GeneralizeMove, generalizings_of}
-use Rattle.nq_goals.specs.Moves.{IsMove, generalizes}
+use Rattle.nq_goals.specs.Eliminating.{EliminateMove}
+use Rattle.nq_goals.specs.Moves.{IsMove, eliminates, generalizes}
+use Rattle.nq_eliminate.specs.Instances.{Eliminates}
+use Rattle.nq_eliminate.specs.Shells.{HasNoneOfShells}
 use Rattle.nq_moves.specs.declared.moved.Moved.{Moved}
 use Rattle.nq_generalize.specs.Found.{Generalizes}
 use Rattle.nq_waterfall.specs.Kinds.{goal_kind}
@@ -66,3 +69,14 @@ module _ (history : List Entry) (hints : Hints) (old new : Work) (ready : CanMov
 
   pub no_generalization : generalizings_of (events_at old.bank history) (hints_at old.bank hints) (terms_at old.bank goal) ≡ [] → generalizings_of (events_at new.bank history) (hints_at new.bank hints) (terms_at new.bank goal) ≡ []
   no_generalization e = scene_grown history hints old new path goal (λ (h : History) (hs : model.Hints) (a : Above) (c : Clause). generalizings_of h hs c ≡ []) ready grows stand (goal_stands history old goal goal_in) e
+
+  -- an ELIM below the goals above is legal
+  pub elimination_leads : (above : List (Vec TermId Global)) (moved : Moved) → goals_at old.bank above ≡ goals_above (above_at old.bank path) → NormalAt old.bank history hints goal
+      → Eliminates (events_at old.bank history) (hints_at old.bank hints) old.bank new.bank above goal moved → MoveAt new.bank history hints path kind.Elim goal moved.children.items
+  elimination_leads above moved goals normal e =
+      let nexts : List Clause = goals_at new.bank moved.children.items in
+      scene_grown history hints old new path goal (λ (h : History) (hs : model.Hints) (a : Above) (c : Clause). IsMove h hs a (goal_kind kind.Elim) c nexts) ready grows stand (goal_stands history old goal goal_in)
+      (eliminates (terms_at old.bank goal) nexts normal (subst (λ (gs : List Clause). EliminateMove (events_at old.bank history) (hints_at old.bank hints) gs (terms_at old.bank goal) nexts) goals e.leads))
+
+  pub no_elimination : HasNoneOfShells (events_at old.bank history) (terms_at old.bank goal) → HasNoneOfShells (events_at new.bank history) (terms_at new.bank goal)
+  no_elimination e = scene_grown history hints old new path goal (λ (h : History) (hs : model.Hints) (a : Above) (c : Clause). HasNoneOfShells h c) ready grows stand (goal_stands history old goal goal_in) e

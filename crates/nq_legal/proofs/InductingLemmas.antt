@@ -30,7 +30,7 @@ use Rattle.nq_waterfall.proofs.SameLemmas.{goal_stands, scene_grown}
 use Rattle.nq_legal.specs.declared.way.Way.TheVariants as way
 use Rattle.nq_legal.specs.declared.form.Form.TheVariants.{Normal}
 use Rattle.nq_legal.specs.Forms.{IsForm}
-use Rattle.nq_legal.specs.Inducting.{IsInduction, IsInductionBy}
+use Rattle.nq_legal.specs.Inducting.{IsInductionBy}
 use Rattle.nq_legal.specs.Leaving.{IsToHint, IsToInduct}
 use Rattle.nq_legal.specs.Legal.{IsWay, NormalAt}
 

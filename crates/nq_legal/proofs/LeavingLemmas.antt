@@ -1,9 +1,8 @@
 -- Why goals are left over.
 use Rattle.std.proofs.Common.{◌≡◌, ◌<◌, ◌≤◌, Bool, true, false, Option, Some, None, List, [], ◌∷◌, ◌++◌, length, refl, sym, ap, subst, ◌∙◌, arith, lit<}
-use Rattle.std.specs.Prelude.{◌↔◌, IsTrue, IfOk, Result, Ok, Err, if◌then◌else◌}
-use Rattle.std.specs.declared.alloc.AllocError.{AllocError}
+use Rattle.std.specs.Prelude.{◌↔◌, IsTrue, if◌then◌else◌}
 use Rattle.std.specs.Option.{option_map}
-use Rattle.nq_logic.specs.Terms.{Term, IsAmong}
+use Rattle.nq_logic.specs.Terms.{Term, Each, IsAmong}
 use Rattle.nq_events.specs.Inductions.{suggests_induction}
 use Rattle.nq_bank.specs.declared.node.TermId.{TermId}
 use Rattle.nq_bank.specs.Content.{Content, term_at, terms_at}
@@ -11,6 +10,8 @@ use Rattle.nq_proof.specs.Clauses.{Clause}
 use Rattle.nq_history.specs.declared.entry.Entry.{Entry}
 use Rattle.nq_history.specs.declared.hints.Hints.{Hints}
 use Rattle.nq_history.specs.Events.{events_at}
+use Rattle.nq_logic.specs.Ground.{all_events}
+use Rattle.nq_goals.specs.Normal.{IsNormal}
 use Rattle.nq_event.specs.EventsAt.{hints_at}
 use Rattle.nq_kernel.specs.declared.verdict.Cause.TheVariants as causes
 use Rattle.nq_goals.specs.Inducting.{hinted_call, hinted_or, hinted_term, scheme_calls, suggesting_among, suggesting_in, suggestions}
@@ -20,8 +21,9 @@ use Rattle.nq_goals.specs.Spent.{IsFalse, normal}
 use Rattle.nq_waterfall.specs.declared.trail.Ancestor.{Ancestor}
 use Rattle.nq_waterfall.specs.Trails.{above_at}
 use Rattle.nq_waterfall.specs.Turns.{SpentAt}
-use Rattle.nq_stuck.specs.Left.{IsLeftToGroups}
-use Rattle.nq_legal.specs.Candidates.{HasNoneOfFour}
+use Rattle.nq_eliminate.specs.Calling.{CallsNoneOf}
+use Rattle.nq_eliminate.specs.Laws.{ShellsSuffice}
+use Rattle.nq_legal.specs.Candidates.{HasNoneOfFive}
 use Rattle.nq_legal.specs.Leaving.{IsFreeAt, IsHintedAt, IsStuck, IsToHint, IsToInduct}
 
 free_none : (o : Option Term) (gs : List Clause) → o ≡ None → hinted_term o gs ≡ []
@@ -137,20 +139,18 @@ not_told false P e k p = absurd (never (k.1 p))
     never : false ≡ true → ⊥
     never e = absurd cc
 
--- a goal that is left to IRR and induction is stuck where IRR has no candidate
-pub stuck_if : (bank : Content) (history : List Entry) (hints : Hints) (goal : List TermId) (r : Result Bool AllocError) → (IsFalse (events_at bank history) (terms_at bank goal) → ⊥) → HasNoneOfFour (events_at bank history) (hints_at bank hints) (terms_at bank goal) →
-    IfOk r (λ b. b ≡ true → IsLeftToGroups (events_at bank history) (hints_at bank hints) (terms_at bank goal)) → IfOk r (λ b. b ≡ true → IsStuck bank history hints goal)
-stuck_if bank history hints goal (Ok b) not_false four k = λ e.
-    let groups : IsLeftToGroups (events_at bank history) (hints_at bank hints) (terms_at bank goal) = k e in
+-- a goal is stuck in which these moves have no candidate, where it calls no destructor of the rule of an axiom or a lemma
+pub stuck_if : (bank : Content) (history : List Entry) (hints : Hints) (goal : List TermId) → ShellsSuffice → Each (CallsNoneOf (terms_at bank goal)) (all_events (events_at bank history)) → IsNormal (events_at bank history) (hints_at bank hints) (terms_at bank goal) →
+    (IsFalse (events_at bank history) (terms_at bank goal) → ⊥) → HasNoneOfFive (events_at bank history) (hints_at bank hints) (terms_at bank goal) → IsStuck bank history hints goal
+stuck_if bank history hints goal law none_called form not_false five =
     record {
-      normal = groups.normal;
+      normal = form;
       not_false = not_false;
       none = record {
-        no_substituting = four.no_substituting;
-        no_eliminating = groups.none.no_eliminating;
-        no_fertilizing = four.no_fertilizing;
-        no_generalizing = four.no_generalizing;
-        no_dropping = four.no_dropping;
+        no_substituting = five.of_four.no_substituting;
+        no_eliminating = (law (events_at bank history) (terms_at bank goal) none_called five.of_shells).none (hints_at bank hints);
+        no_fertilizing = five.of_four.no_fertilizing;
+        no_generalizing = five.of_four.no_generalizing;
+        no_dropping = five.of_four.no_dropping;
       };
     }
-stuck_if bank history hints goal (Err e) not_false four k = k

@@ -1,6 +1,6 @@
 -- Goals without copies of literals serve in the place of those with them.
-use Rattle.std.proofs.Common.{◌≡◌, ◌≤◌, ◌+◌, ℕ, List, [], ◌∷◌, ◌++◌, map, length, take, refl, sym, ap, ap₂, ◌∙◌, subst, inl, inr}
-use Rattle.std.specs.Prelude.{All, Option, Some, Vec, slice_get}
+use Rattle.std.proofs.Common.{◌≡◌, ◌≤◌, ◌+◌, ℕ, List, [], ◌∷◌, ◌++◌, map, length, take, sym, ap, ap₂, ◌∙◌, subst, inl, inr}
+use Rattle.std.specs.Prelude.{All, Some, Vec, slice_get}
 use Rattle.std.specs.declared.alloc.Global.{Global}
 use Rattle.std.proofs.lemmas.List.{map-append, take_all}
 use Rattle.std.proofs.lemmas.List.Elements.{All-push}
@@ -12,7 +12,7 @@ use Rattle.nq_proof.specs.Clauses.{Clause, distinct}
 use Rattle.nq_proof.proofs.Tests.{distinct_in}
 use Rattle.nq_history.specs.declared.entry.Entry.{Entry}
 use Rattle.nq_kernel.specs.declared.work.Work.{Work}
-use Rattle.nq_lines.specs.Lines.{AreAmong, IsTermIn}
+use Rattle.nq_lines.specs.Lines.{AreAmong}
 use Rattle.nq_lines.proofs.LineLemmas.{from_distinct, only_more}
 use Rattle.nq_moves.proofs.ClosingLemmas.{some_in}
 use Rattle.nq_simplify.specs.declared.way.Way.{Way}

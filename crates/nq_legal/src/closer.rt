@@ -1,4 +1,4 @@
-//! What closes goals before they are moved.
+//! What closes goals of which all is proved to which a move led, where no way back is kept of the move.
 ghost use Rattle.std.specs.Prelude.{◌≡◌, IfOk, IfSome, Err};
 ghost use Rattle.nq_bank.specs.Content.{terms_at};
 ghost use Rattle.nq_kernel.specs.Growing.{WorkGrows};
@@ -9,7 +9,7 @@ use nq_bank::TermId;
 use nq_history::{Hints, History};
 use nq_kernel::{Stop, Work};
 
-/// What closes goals before they are moved.
+/// What closes goals of which all is proved to which a move led, where no way back is kept of the move.
 pub trait Closer {
     /// A line with only literals of a goal, where one is found.
     fn close(

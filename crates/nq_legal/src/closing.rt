@@ -1,5 +1,5 @@
 //! The way back from lines of the goals to which a move led.
-ghost use Rattle.std.specs.Prelude.{◌≡◌, All, IfOk, IfSome, Err};
+ghost use Rattle.std.specs.Prelude.{◌≡◌, IfOk, IfSome, Err};
 ghost use Rattle.nq_bank.specs.Content.{terms_at};
 ghost use Rattle.nq_kernel.specs.Growing.{WorkStands, WorkGrows};
 ghost use Rattle.nq_lines.specs.Lines.{LineHasOnly};

@@ -1,5 +1,5 @@
 //! Of what form a goal is: false, in normal form, or neither.
-ghost use Rattle.std.specs.Prelude.{◌≡◌, [], All, IfOk, Err, true};
+ghost use Rattle.std.specs.Prelude.{◌≡◌, [], All, IfOk, true};
 ghost use Rattle.nq_kernel.specs.Growing.{WorkGrows};
 ghost use Rattle.nq_waterfall.specs.Ready.{CanMove, IsGoalIn};
 ghost use Rattle.nq_waterfall.specs.Trails.{AncestorStands};

@@ -26,7 +26,7 @@ use nq_waterfall::{Ancestor, Lead};
 use std::alloc::{AllocError, Global};
 
 /// The goals above a goal, the nearest first.
-fn goals_above(alloc: Global, path: &[Ancestor]) -> Result<Vec<Vec<TermId>>, AllocError>
+pub fn goals_above(alloc: Global, path: &[Ancestor]) -> Result<Vec<Vec<TermId>>, AllocError>
     ensures goals { IfOk result (λ v. (bank : Content) → goals_at bank v.items ≡ goals_above (above_at bank path.now)) }
     ensures inside { IfOk result (λ v. (history : List Entry) → (work : Work) → IsPathIn history work path.now → All (λ goal. IsGoalIn history work goal.items) v.items) }
 {

@@ -1,17 +1,16 @@
 //! The legal mover.
-ghost use Rattle.std.specs.Prelude.{◌≡◌, All, IfOk, IfSome, Err};
+ghost use Rattle.std.specs.Prelude.{◌≡◌, All, IfOk, Err};
 ghost use Rattle.nq_bank.specs.Content.{terms_at};
 ghost use Rattle.nq_history.specs.Events.{events_at};
 ghost use Rattle.nq_kernel.specs.Growing.{WorkGrows};
 ghost use Rattle.nq_waterfall.specs.Ready.{CanMove, IsGoalIn, IsPathIn};
 ghost use Rattle.nq_waterfall.specs.Trails.{AncestorStands};
 ghost use Rattle.nq_waterfall.specs.Turns.{IsTurn};
-ghost use Rattle.nq_lines.specs.Lines.{LineHasOnly};
 ghost use Rattle.nq_legal.specs.Forms.{IsForm};
 ghost use Rattle.nq_legal.specs.Leaving.{IsStuck};
 ghost use Rattle.nq_legal.specs.Legal.{IsWay};
 ghost use Rattle.nq_event.specs.EventsAt.{hints_at};
-ghost use Rattle.nq_legal.specs.Candidates.{HasNoneOfFour};
+ghost use Rattle.nq_legal.specs.Candidates.{HasNoneOfFive};
 ghost use Rattle.nq_legal.specs.Turning.{turn_of};
 ghost use Rattle.nq_legal.specs.declared.form.Form.TheVariants.{Normal};
 
@@ -21,7 +20,7 @@ use crate::form::{Form, form_of};
 use crate::inducting::{Inductor, induct_hinted, induct_on};
 use crate::leaving::{Left, left_over};
 use crate::moving::move_on;
-use crate::simplifying::simplify;
+use crate::simplifying::{simplify, simplify_below};
 use crate::stuck::is_stuck;
 use crate::way::Way;
 use nq_bank::TermId;
@@ -34,7 +33,7 @@ use nq_waterfall::{Ancestor, Lead, Mover, Turn};
 /// Moves goals by legal moves alone.
 #[derive(Clone, Copy)]
 pub struct Legal<C, R, I> {
-    /// What closes goals before they are moved.
+    /// What closes goals that a move led to proved ones, where no way back is kept of the move.
     pub closer: C,
     /// What rewrites the literals of goals.
     pub rewriter: R,
@@ -84,7 +83,7 @@ fn lead_stuck<I: Inductor>(
     }
 }
 
-/// Leads a goal on, in which SUBST, FERT, GEN and IRR have no candidate.
+/// Leads a goal on, in which SUBST, FERT, GEN and IRR have no candidate, nor ELIM by the rule of a shell.
 fn lead_unmoved<I: Inductor>(
     work: &mut Work,
     inductor: &mut I,
@@ -97,7 +96,7 @@ fn lead_unmoved<I: Inductor>(
     requires path { All (AncestorStands work.old.bank) path.now }
     requires goal { IsGoalIn history.now work.old goal.now }
     requires form { IsForm work.old.bank history.now hints.now path.now goal.now Normal }
-    requires none { HasNoneOfFour (events_at work.old.bank history.now) (hints_at work.old.bank hints.now) (terms_at work.old.bank goal.now) }
+    requires none { HasNoneOfFive (events_at work.old.bank history.now) (hints_at work.old.bank hints.now) (terms_at work.old.bank goal.now) }
     ensures turn { IfOk result (IsTurn IsWay history.now hints.now work.new path.now goal.now) }
     ensures grows { WorkGrows history.now work.old work.new }
     ensures out { result ≡ Err Stop.OutOfSteps → work.new.counter.used ≡ work.new.counter.limit }
@@ -109,8 +108,8 @@ fn lead_unmoved<I: Inductor>(
     }
 }
 
-/// Leads a goal on that is in normal form and not false.
-fn lead_normal<I: Inductor>(
+/// Leads a goal on that is in normal form and not false, by another move than SIMP.
+fn lead_moved<I: Inductor>(
     work: &mut Work,
     inductor: &mut I,
     history: &History,
@@ -131,6 +130,33 @@ fn lead_normal<I: Inductor>(
     match move_on(work, history, hints, path, goal)? {
         Some(lead) => Ok(Turn::Led(lead)),
         None => lead_unmoved(work, inductor, history, hints, path, goal),
+    }
+}
+
+/// Leads a goal on that is in normal form and not false. One to which ELIM led is simplified first, where that changes it: else it
+/// might be led to itself by ELIM again.
+fn lead_normal<R: Rewriter, I: Inductor>(
+    work: &mut Work,
+    rewriter: &mut R,
+    inductor: &mut I,
+    history: &History,
+    hints: &Hints,
+    path: &[Ancestor],
+    goal: &[TermId],
+) -> Result<Turn<Way>, Stop>
+    requires ready { CanMove history.now hints.now work.old }
+    requires path { All (AncestorStands work.old.bank) path.now }
+    requires path_in { IsPathIn history.now work.old path.now }
+    requires goal { IsGoalIn history.now work.old goal.now }
+    requires form { IsForm work.old.bank history.now hints.now path.now goal.now Normal }
+    ensures turn { IfOk result (IsTurn IsWay history.now hints.now work.new path.now goal.now) }
+    ensures grows { WorkGrows history.now work.old work.new }
+    ensures out { result ≡ Err Stop.OutOfSteps → work.new.counter.used ≡ work.new.counter.limit }
+{
+    holding();
+    match simplify_below(work, history, hints, rewriter, path, goal)? {
+        Some(lead) => Ok(Turn::Led(lead)),
+        None => lead_moved(work, inductor, history, hints, path, goal),
     }
 }
 
@@ -155,28 +181,6 @@ fn lead_other<R: Rewriter>(
 }
 
 impl<C: Closer, R: Rewriter, I: Inductor> Legal<C, R, I> {
-    /// A line that closes a goal below others, where one is found. A first goal is moved at once.
-    fn close_below(
-        &mut self,
-        work: &mut Work,
-        history: &History,
-        hints: &Hints,
-        path: &[Ancestor],
-        goal: &[TermId],
-    ) -> Result<Option<u64>, Stop>
-        requires ready { CanMove history.now hints.now work.old }
-        requires goal { IsGoalIn history.now work.old goal.now }
-        ensures line { IfOk result (λ found. IfSome found (λ n. LineHasOnly work.new n (terms_at work.new.bank goal.now))) }
-        ensures grows { WorkGrows history.now work.old work.new }
-        ensures out { result ≡ Err Stop.OutOfSteps → work.new.counter.used ≡ work.new.counter.limit }
-    {
-        if path.is_empty() {
-            Ok(None)
-        } else {
-            self.closer.close(work, history, hints, goal)
-        }
-    }
-
     /// Leads a goal of this form on, or leaves it over.
     fn lead_by_form(
         &mut self,
@@ -198,32 +202,16 @@ impl<C: Closer, R: Rewriter, I: Inductor> Legal<C, R, I> {
     {
         match form {
             Form::Falsity => Ok(Turn::Spent(Cause::False)),
-            Form::Normal => lead_normal(work, &mut self.inductor, history, hints, path, goal),
+            Form::Normal => lead_normal(
+                work,
+                &mut self.rewriter,
+                &mut self.inductor,
+                history,
+                hints,
+                path,
+                goal,
+            ),
             Form::Other => lead_other(work, &mut self.rewriter, history, hints, path, goal),
-        }
-    }
-
-    /// Leads a goal on, or leaves it over, which was not closed.
-    fn lead_open(
-        &mut self,
-        work: &mut Work,
-        history: &History,
-        hints: &Hints,
-        path: &[Ancestor],
-        goal: &[TermId],
-    ) -> Result<Turn<Way>, Stop>
-        requires ready { CanMove history.now hints.now work.old }
-        requires path { All (AncestorStands work.old.bank) path.now }
-        requires path_in { IsPathIn history.now work.old path.now }
-        requires goal { IsGoalIn history.now work.old goal.now }
-        ensures turn { IfOk result (IsTurn IsWay history.now hints.now work.new path.now goal.now) }
-        ensures grows { WorkGrows history.now work.old work.new }
-        ensures out { result ≡ Err Stop.OutOfSteps → work.new.counter.used ≡ work.new.counter.limit }
-    {
-        holding();
-        match form_of(work, history, hints, path, goal) {
-            Ok(form) => self.lead_by_form(work, history, hints, path, goal, form),
-            Err(_) => Err(Stop::Memory),
         }
     }
 }
@@ -242,9 +230,9 @@ impl<C: Closer, R: Rewriter, I: Inductor> Mover for Legal<C, R, I> {
         goal: &[TermId],
     ) -> Result<Turn<Way>, Stop> {
         holding();
-        match self.close_below(work, history, hints, path, goal)? {
-            Some(line) => Ok(Turn::Closed(line)),
-            None => self.lead_open(work, history, hints, path, goal),
+        match form_of(work, history, hints, path, goal) {
+            Ok(form) => self.lead_by_form(work, history, hints, path, goal, form),
+            Err(_) => Err(Stop::Memory),
         }
     }
 
@@ -257,6 +245,10 @@ impl<C: Closer, R: Rewriter, I: Inductor> Mover for Legal<C, R, I> {
         lead: &Lead<Way>,
         lines: &[u64],
     ) -> Result<Option<u64>, Stop> {
-        close_way(work, history, goal, lead.nexts.as_slice(), &lead.way, lines)
+        holding();
+        match close_way(work, history, goal, lead.nexts.as_slice(), &lead.way, lines)? {
+            Some(line) => Ok(Some(line)),
+            None => self.closer.close(work, history, hints, goal),
+        }
     }
 }

@@ -1,4 +1,4 @@
-//! Goals that SUBST, FERT, GEN or IRR leads on.
+//! Goals that SUBST, ELIM, FERT, GEN or IRR leads on.
 ghost use Rattle.std.specs.Prelude.{◌≡◌, [], All, IfOk, MatchOption, Err};
 ghost use Rattle.nq_bank.specs.Content.{terms_at};
 ghost use Rattle.nq_history.specs.Events.{events_at};
@@ -12,8 +12,9 @@ ghost use Rattle.nq_waterfall.specs.Ready.{CanMove, IsGoalIn, IsPathIn};
 ghost use Rattle.nq_waterfall.specs.Trails.{AncestorStands};
 ghost use Rattle.nq_waterfall.specs.Turns.{IsLead};
 ghost use Rattle.nq_legal.specs.Legal.{AreCopies, IsLegal, IsWay, LeadsAnywhere, NormalAt};
-ghost use Rattle.nq_legal.specs.Candidates.{HasNoneLess, HasNoneOfFour};
+ghost use Rattle.nq_legal.specs.Candidates.{HasNoneLess, HasNoneOfFive, HasNoneOfFour};
 
+use crate::eliminating::eliminated;
 use crate::generalizing::generalized;
 use crate::way::Way;
 use nq_bank::TermId;
@@ -181,7 +182,32 @@ fn changed(
     }
 }
 
-/// SUBST, FERT, GEN or IRR, where the goal has a candidate.
+/// ELIM, FERT, GEN or IRR, where the goal has a candidate.
+fn moved(
+    work: &mut Work,
+    history: &History,
+    hints: &Hints,
+    path: &[Ancestor],
+    goal: &[TermId],
+) -> Result<Option<Lead<Way>>, Stop>
+    requires ready { CanMove history.now hints.now work.old }
+    requires path { All (AncestorStands work.old.bank) path.now }
+    requires path_in { IsPathIn history.now work.old path.now }
+    requires goal { IsGoalIn history.now work.old goal.now }
+    requires normal { NormalAt work.old.bank history.now hints.now goal.now }
+    requires none { substitutions_of (terms_at work.old.bank goal.now) ≡ [] }
+    ensures legal { IfOk result (λ found. MatchOption found (HasNoneOfFive (events_at work.new.bank history.now) (hints_at work.new.bank hints.now) (terms_at work.new.bank goal.now)) (IsLead IsWay history.now hints.now work.new path.now goal.now)) }
+    ensures grows { WorkGrows history.now work.old work.new }
+    ensures out { result ≡ Err Stop.OutOfSteps → work.new.counter.used ≡ work.new.counter.limit }
+{
+    holding();
+    match eliminated(work, history, hints, path, goal)? {
+        Some(lead) => Ok(Some(lead)),
+        None => changed(work, history, hints, path, goal),
+    }
+}
+
+/// SUBST, ELIM, FERT, GEN or IRR, where the goal has a candidate; of ELIM one by the rule of a shell.
 pub fn move_on(
     work: &mut Work,
     history: &History,
@@ -194,13 +220,13 @@ pub fn move_on(
     requires path_in { IsPathIn history.now work.old path.now }
     requires goal { IsGoalIn history.now work.old goal.now }
     requires normal { NormalAt work.old.bank history.now hints.now goal.now }
-    ensures legal { IfOk result (λ found. MatchOption found (HasNoneOfFour (events_at work.new.bank history.now) (hints_at work.new.bank hints.now) (terms_at work.new.bank goal.now)) (IsLead IsWay history.now hints.now work.new path.now goal.now)) }
+    ensures legal { IfOk result (λ found. MatchOption found (HasNoneOfFive (events_at work.new.bank history.now) (hints_at work.new.bank hints.now) (terms_at work.new.bank goal.now)) (IsLead IsWay history.now hints.now work.new path.now goal.now)) }
     ensures grows { WorkGrows history.now work.old work.new }
     ensures out { result ≡ Err Stop.OutOfSteps → work.new.counter.used ≡ work.new.counter.limit }
 {
     holding();
     match substituted(work, history, hints, goal)? {
         Some(lead) => Ok(Some(lead)),
-        None => changed(work, history, hints, path, goal),
+        None => moved(work, history, hints, path, goal),
     }
 }

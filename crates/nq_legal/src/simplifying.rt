@@ -1,6 +1,6 @@
 //! Goals that are simplified.
-ghost use Rattle.std.specs.Prelude.{◌≡◌, All, IfOk, IfSome, Err};
-ghost use Rattle.nq_bank.specs.Content.{Stands, terms_at};
+ghost use Rattle.std.specs.Prelude.{◌≡◌, IfOk, IfSome, Err};
+ghost use Rattle.nq_bank.specs.Content.{terms_at};
 ghost use Rattle.nq_history.specs.Events.{events_at};
 ghost use Rattle.nq_kernel.specs.Growing.{WorkStands, WorkGrows};
 ghost use Rattle.nq_lines.specs.OwnTerms.{HasOwnTerms};
@@ -19,8 +19,8 @@ use nq_history::{Hints, History};
 use nq_kernel::{MoveKind, Stop, Work};
 use nq_ready::own_terms;
 use nq_simplify::{Rewriter, Simplified, make_basis, simplify_goal, ways_simplify};
-use nq_waterfall::Lead;
 use nq_waterfall::laws::holding;
+use nq_waterfall::{Ancestor, Lead};
 
 /// How many literals may be rewritten in a row.
 const ROUNDS: u64 = 120;
@@ -107,4 +107,62 @@ pub fn simplify<R: Rewriter>(
     let simplified = simplified(work, history, rewriter, goal)?;
     let thin = thinned(work, history, goal, simplified)?;
     lead_if_plain(work, history, hints, goal, thin)
+}
+
+/// Did ELIM lead to the goal below these?
+fn is_eliminated(path: &[Ancestor]) -> bool {
+    match path {
+        [.., last] => last.kind == MoveKind::Elim,
+        [] => false,
+    }
+}
+
+/// Are these the same ids?
+fn are_same(ids: &[TermId], others: &[TermId]) -> bool {
+    if ids.len() != others.len() {
+        return false;
+    }
+    for i in 0..ids.len() {
+        if ids[i].0 != others[i].0 {
+            return false;
+        }
+    }
+    true
+}
+
+/// Does a move lead to the goal itself alone?
+fn is_idle(lead: &Lead<Way>, goal: &[TermId]) -> bool {
+    match lead.nexts.as_slice() {
+        [only] => are_same(only.as_slice(), goal),
+        [] => false,
+        _ => false,
+    }
+}
+
+/// SIMP of a goal to which ELIM led, where what is left is in normal form, and not the goal itself.
+pub fn simplify_below<R: Rewriter>(
+    work: &mut Work,
+    history: &History,
+    hints: &Hints,
+    rewriter: &mut R,
+    path: &[Ancestor],
+    goal: &[TermId],
+) -> Result<Option<Lead<Way>>, Stop>
+    requires ready { CanMove history.now hints.now work.old }
+    requires goal { IsGoalIn history.now work.old goal.now }
+    ensures legal { IfOk result (λ found. IfSome found (IsLegal history.now hints.now work.new goal.now)) }
+    ensures grows { WorkGrows history.now work.old work.new }
+    ensures out { result ≡ Err Stop.OutOfSteps → work.new.counter.used ≡ work.new.counter.limit }
+{
+    if !is_eliminated(path) {
+        return Ok(None);
+    }
+    match simplify(work, history, hints, rewriter, goal)? {
+        Some(lead) => if is_idle(&lead, goal) {
+            Ok(None)
+        } else {
+            Ok(Some(lead))
+        },
+        None => Ok(None),
+    }
 }

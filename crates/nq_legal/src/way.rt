@@ -7,7 +7,7 @@ use nq_simplify::Way as Steps;
 pub enum Way {
     /// The steps of a simplification.
     Simplified(Steps),
-    /// A move of SUBST, FERT or IRR.
+    /// A move of SUBST, ELIM, FERT, GEN or IRR.
     Moved(Moved),
     /// An induction, of which no way back is kept.
     Inducted,

@@ -25,7 +25,9 @@ pub mod SwappedLemmas
 pub mod LegalLemmas
 pub mod FertileLemmas
 pub mod CrossedLemmas
+pub mod EliminatedLemmas
 pub mod WayLemmas
 pub mod NamingLemmas
 pub mod GeneralizedLemmas
+pub mod UsedLemmas
 pub mod NumberingLemmas

@@ -2,7 +2,7 @@
 use Rattle.std.proofs.Common.{◌≡◌, ◌<◌, ◌≤◌, ◌+◌, ◌^◌, ℕ, zero, suc, Bool, true, false, ◌||◌, ◌&&◌, Option, Some, None, List, [], ◌∷◌, ◌++◌, length, take, map, get_or, refl, sym, ap, ◌∙◌, subst, inl, inr, arith}
 use Rattle.std.specs.Prelude.{All, IsTrue, IfSome, not, codes, bytes_eq}
 use Rattle.nq_bank.proofs.Standing.{All-push}
-use Rattle.std.proofs.lemmas.List.{map_push, take_more, take_all}
+use Rattle.std.proofs.lemmas.List.{map_push, take_more}
 use Rattle.nq_logic.specs.Terms.{Name, Term, Variable, Function, Applied, Each, IsAmong, Substitution}
 use Rattle.nq_logic.specs.Admissible.{AreDistinct}
 use Rattle.nq_logic.specs.Numerals.{numeral_limit}
@@ -206,9 +206,6 @@ one-any x (t ∷ c) = ap (λ b. occurs x t || b) (one-any x c)
 pub occurs-more : (x : Name) (ts : List Term) (ids : List TermId) (i : ℕ) (d : TermId) (before here found : Bool) → i < length ids → before ≡ occurs_in_one x (terms_from ts (take i ids)) → here ≡ occurs x (term_from ts (get_or ids i d)) → found ≡ (before || here) → found ≡ occurs_in_one x (terms_from ts (take (i + 1) ids))
 occurs-more x ts ids i d before here found below was is told =
     any_listed (occurs x) ts ids i d before here found below (was ∙ one-any x (terms_from ts (take i ids))) is told ∙ sym (one-any x (terms_from ts (take (i + 1) ids)))
-
-pub occurs-all : (x : Name) (bank : Content) (ids : List TermId) (i : ℕ) (found : Bool) → length ids ≤ i → found ≡ occurs_in_one x (terms_at bank (take i ids)) → found ≡ occurs_in_one x (terms_at bank ids)
-occurs-all x bank ids i found all is = is ∙ ap (λ xs. occurs_in_one x (terms_at bank xs)) (take_all i ids all)
 
 -- the renaming
 module _ (history : List Entry) (w0 w1 w2 : Work) (g1 : WorkGrows history w0 w1) (g2 : WorkGrows history w1 w2) (stood : WorkStands history w0) (literals : List TermId) (all : All (IsTermIn history w0) literals) (r : Renaming) where

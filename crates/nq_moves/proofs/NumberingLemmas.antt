@@ -1,5 +1,5 @@
 -- The names that are taken in turn are the first new ones.
-use Rattle.std.proofs.Common.{◌≡◌, ℕ, zero, suc, ◌+◌, ◌-◌, ◌<◌, ◌≤◌, nat_lt, Bool, true, false, not, ◌||◌, ◌&&◌, if◌then◌else◌, List, [], ◌∷◌, ◌++◌, length, map, take, get_or, refl, sym, ap, ◌∙◌, subst, inl, inr, arith}
+use Rattle.std.proofs.Common.{◌≡◌, ℕ, zero, suc, ◌+◌, ◌-◌, ◌<◌, ◌≤◌, nat_lt, Bool, true, false, ◌||◌, if◌then◌else◌, List, [], ◌∷◌, ◌++◌, length, take, get_or, refl, sym, ap, ◌∙◌, subst, inl, inr, arith}
 use Rattle.std.specs.Prelude.{All, bytes_eq, Vec, Result, Ok, Err, IfOk, Option, Some, None, MatchOption}
 use Rattle.std.specs.declared.alloc.Global.{Global}
 use Rattle.std.proofs.lemmas.Bool.Decides.{nat_tests}
@@ -8,7 +8,7 @@ use Rattle.nq_logic.specs.Terms.{Name, Term, Variable, Function, Applied, IsAmon
 use Rattle.nq_logic.specs.Names.{has_name}
 use Rattle.nq_logic.specs.RuleShapes.{variables_of}
 use Rattle.nq_bank.specs.declared.node.TermId.{TermId}
-use Rattle.nq_bank.specs.Content.{Content, Grows, Stands, term_at, terms_at, text_at}
+use Rattle.nq_bank.specs.Content.{Content, Grows, term_at, terms_at, text_at}
 use Rattle.nq_bank.specs.Parts.{occurs}
 use Rattle.nq_bank.proofs.NodesLemmas.{All-head, All-tail}
 use Rattle.nq_bank.proofs.Growth.{Grows-trans, term_at-grown}
@@ -27,7 +27,7 @@ use Rattle.nq_kernel.specs.Over.{pair_names}
 use Rattle.nq_lines.specs.Lines.{IsTermIn, AreAmong}
 use Rattle.nq_lines.proofs.MatchLemmas.{distinct_told}
 use Rattle.nq_goals.specs.NewVariables.{numbered, unused_from, new_variables, clause_variables}
-use Rattle.nq_moves.specs.Naming.{occurs_in_one, IsNaming, IsNewName}
+use Rattle.nq_moves.specs.Naming.{occurs_in_one, IsNaming}
 use Rattle.nq_moves.specs.Numbering.{IsNext}
 use Rattle.nq_moves.specs.declared.numbering.Numbered.{Numbered}
 use Rattle.nq_moves.specs.declared.naming.Renaming.{Renaming}

@@ -37,6 +37,7 @@ use Rattle.nq_moves.proofs.ClosingLemmas.{IsInWork, each_over, all_stand, term_i
 use Rattle.nq_moves.proofs.OverLemmas.{in_grown, ids_in, mapped_in, one_child_in}
 use Rattle.nq_moves.proofs.DroppingLemmas.{others_among}
 use Rattle.nq_moves.proofs.LastingLemmas.{goals_grown, goals_stand_grown, substituted_lasts}
+use Rattle.nq_moves.proofs.EliminatedLemmas.{eliminated_lasts}
 use Rattle.nq_moves.proofs.SwappedLemmas.{goal_same, swapping_grown, swapped_grown}
 
 -- goals of terms that are in are in
@@ -129,7 +130,7 @@ module _ (history : List Entry) (old new : Work) (stood : WorkStands history old
   lasts_by : (k : MoveKind) → WayOf k history old goal moved → WayOf k history new goal moved
   lasts_by kind.Simp h = h
   lasts_by kind.Subst h = substituted_lasts old.bank old.bank new.bank goal moved (Grows-refl old.bank) grows.bank (all_stand history old goal all) h
-  lasts_by kind.Elim h = h
+  lasts_by kind.Elim h = eliminated_lasts history old new stood grows goal all moved h
   lasts_by kind.Fert h = swapped_grown history old new stood grows goal all moved h
   lasts_by kind.Gen h = renamed_lasts h
   lasts_by kind.Irr h = left_lasts h

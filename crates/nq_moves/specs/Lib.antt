@@ -10,7 +10,9 @@ pub mod Laws
 pub mod Fertilized
 pub mod Swapped
 pub mod Renamed
+pub mod Eliminated
 pub mod Naming
 pub mod Ways
 pub mod OfTable
+pub mod UsedNames
 pub mod Numbering

@@ -12,12 +12,13 @@ use Rattle.nq_moves.specs.Found.{IsSubstituted}
 use Rattle.nq_moves.specs.Dropped.{IsLeft}
 use Rattle.nq_moves.specs.Swapped.{IsSwapped}
 use Rattle.nq_moves.specs.Renamed.{IsRenamed}
+use Rattle.nq_moves.specs.Eliminated.{IsEliminated}
 
 -- what is kept of a move of this kind serves to go back
 abbrev pub WayOf : MoveKind → List Entry → Work → List TermId → Moved → Type 0
 WayOf kind.Simp history work goal moved = ⊥
 WayOf kind.Subst history work goal moved = IsSubstituted work.bank work.bank goal moved
-WayOf kind.Elim history work goal moved = ⊥
+WayOf kind.Elim history work goal moved = IsEliminated history work goal moved
 WayOf kind.Fert history work goal moved = IsSwapped history work goal moved
 WayOf kind.Gen history work goal moved = IsRenamed history work goal moved
 WayOf kind.Irr history work goal moved = IsLeft work.bank goal moved

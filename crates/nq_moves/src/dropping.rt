@@ -174,6 +174,7 @@ fn try_dropped(alloc: Global, dropped: Dropped) -> Result<Moved, AllocError>
         pairs: Vec::new(alloc),
         literals: group,
         crossing: None,
+        eliminated: None,
     };
     Ok(Moved { children, why })
 }

@@ -31,6 +31,7 @@ fn try_generalized(alloc: Global, pairs: Vec<Pair>, child: Vec<TermId>) -> Resul
         pairs,
         literals: Vec::new(alloc),
         crossing: None,
+        eliminated: None,
     };
     Ok(Moved { children, why })
 }

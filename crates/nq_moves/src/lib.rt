@@ -60,9 +60,14 @@ mod weighing;
 mod naming;
 mod numbering;
 mod renaming;
+mod used_names;
 
 // GEN
 mod generalizing;
+
+// ELIM
+mod eliminating;
+mod uncovering;
 
 // the moves, and the ways back
 pub mod laws;
@@ -74,13 +79,13 @@ pub use clauses::{distinct_clause, keep_unless};
 pub use counted::substitute_all;
 pub use crossing::close_swapped;
 pub use dropping::{close_left, drop_first};
+pub use eliminating::eliminate_by;
 pub use equal::{Swap, equal_within, keep_equal, known_equal};
 pub use exchanging::{Exchanging, exchange_all, exchange_within, replacing};
 pub use fertile::fertilize_move;
 pub use generalizing::generalize_by;
-pub use moved::{Crossing, Moved, Why};
-pub use naming::{Renaming, rename, rename_new};
-pub use numbering::{Numbered, next_name};
+pub use moved::{Crossing, Eliminated, Moved, Why};
+pub use naming::{Renaming, rename, rename_new, variable_id};
 pub use readings::{Reading, reading_of};
 pub use renaming::{close_renamed, put_back};
 pub use standing::{stands_at, stands_in_these};

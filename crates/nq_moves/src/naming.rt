@@ -14,6 +14,7 @@ ghost use Rattle.nq_moves.specs.Naming.{IsNaming, exchange_by, IsRenaming, occur
 
 use crate::exchanging::{Exchanging, exchange_all};
 use crate::numbering::next_name;
+use crate::used_names::names_in;
 use nq_bank::{Bank, Sym, TermId};
 use nq_clause::Pair;
 use nq_history::History;
@@ -31,7 +32,8 @@ fn push_pair(pairs: &mut Vec<Pair>, pair: Pair) -> Result<(), Stop>
     }
 }
 
-/// New variables for the terms, in turn: those of the least numbers that stand in none of the literals.
+/// New variables for the terms, in turn: those of the least numbers that stand in none of the literals. The variables of these are looked
+/// for once, before all numbers.
 fn name_terms(
     work: &mut Work,
     history: &History,
@@ -47,10 +49,11 @@ fn name_terms(
     ensures grows { WorkGrows history.now work.old work.new }
     ensures memory { result ≡ Err Stop.OutOfSteps → ⊥ }
 {
+    let names = names_in(&work.bank, literals)?;
     let mut pairs = Vec::new(work.bank.alloc());
     let mut number = 1;
     for t in terms {
-        let next = next_name(work, history, literals, number)?;
+        let next = next_name(work, history, literals, &names, number)?;
         number = next.number + 1;
         let pair = Pair {
             variable: next.name,
@@ -62,7 +65,7 @@ fn name_terms(
 }
 
 /// The id of a variable.
-fn variable_id(work: &mut Work, history: &History, name: Sym) -> Result<TermId, Stop>
+pub fn variable_id(work: &mut Work, history: &History, name: Sym) -> Result<TermId, Stop>
     requires stands { WorkStands history.now work.old }
     requires name { IsNamed work.old.bank name }
     ensures term { IfOk result (λ t. IsIdOf work.new.bank t (Variable (text_at work.old.bank name))) }

@@ -1,21 +1,21 @@
 //! Numbered variables that are new to literals.
 ghost use Rattle.std.specs.Prelude.{◌≡◌, ◌≤◌, ◌<◌, ◌^◌, ◌++◌, ℕ, suc, true, All, IfOk, OnOk, MatchOption, Err};
 ghost use Rattle.nq_logic.specs.Shells.{digits_of};
-ghost use Rattle.nq_bank.specs.Content.{Stands, IsNamed, NamesText, text_at, term_at, terms_at};
-ghost use Rattle.nq_bank.specs.Parts.{occurs};
+ghost use Rattle.nq_bank.specs.Content.{NamesText, terms_at};
 ghost use Rattle.nq_kernel.specs.Growing.{WorkStands, WorkGrows};
 ghost use Rattle.nq_lines.specs.Lines.{IsTermIn};
 ghost use Rattle.nq_goals.specs.NewVariables.{numbered};
 ghost use Rattle.nq_moves.specs.Naming.{occurs_in_one};
 ghost use Rattle.nq_moves.specs.Numbering.{IsNewAt, IsNext};
+ghost use Rattle.nq_moves.specs.UsedNames.{AreNamesOf};
 
-use crate::known::is_either;
-use nq_bank::{Bank, Sym, TermId};
-use nq_clause::occurs_in;
+use crate::used_names::is_used;
+use nq_bank::{Sym, TermId};
 use nq_history::History;
 use nq_kernel::{Stop, Work};
 use nq_lines::symbol;
 use std::alloc::{AllocError, Global};
+use std::collections::HashMap;
 
 /// Writes the decimal digits of a number.
 fn put_digits(text: &mut Vec<u8>, n: u64) -> Result<(), AllocError>
@@ -55,34 +55,6 @@ fn numbered_name(work: &mut Work, history: &History, number: u64) -> Result<Sym,
     }
 }
 
-/// Does a variable stand in a term?
-fn occurs_at(bank: &Bank, variable: Sym, t: TermId) -> Result<bool, Stop>
-    requires variable { IsNamed bank.now variable }
-    requires term { Stands bank.now t }
-    ensures answer { IfOk result (λ b. b ≡ occurs (text_at bank.now variable) (term_at bank.now t)) }
-    ensures memory { result ≡ Err Stop.OutOfSteps → ⊥ }
-{
-    match occurs_in(bank, variable, t) {
-        Ok(found) => Ok(found),
-        Err(_) => Err(Stop::Memory),
-    }
-}
-
-/// Does a variable stand in one of these?
-fn occurs_in_these(bank: &Bank, variable: Sym, these: &[TermId]) -> Result<bool, Stop>
-    requires variable { IsNamed bank.now variable }
-    requires these { All (Stands bank.now) these.now }
-    ensures answer { IfOk result (λ b. b ≡ occurs_in_one (text_at bank.now variable) (terms_at bank.now these.now)) }
-    ensures memory { result ≡ Err Stop.OutOfSteps → ⊥ }
-{
-    let mut found = false;
-    for t in these {
-        let here = occurs_at(bank, variable, *t)?;
-        found = is_either(found, here);
-    }
-    Ok(found)
-}
-
 /// The name of a variable, and its number.
 #[derive(Clone, Copy, Debug, PartialEq, Eq)]
 pub struct Numbered {
@@ -92,37 +64,42 @@ pub struct Numbered {
     pub number: u64,
 }
 
-/// The name of the variable of a number. It is none where it stands in one of the literals.
+/// The name of the variable of a number. It is none where it stands in one of the literals, whose variables have these names.
 fn new_name(
     work: &mut Work,
     history: &History,
     literals: &[TermId],
+    names: &HashMap<u64, bool>,
     number: u64,
 ) -> Result<Option<Sym>, Stop>
     requires stands { WorkStands history.now work.old }
     requires literals { All (IsTermIn history.now work.old) literals.now }
+    requires names { AreNamesOf work.old.bank names.now (terms_at work.old.bank literals.now) }
     requires number { 1 ≤ number }
     ensures name { IfOk result (λ found. MatchOption found (occurs_in_one (numbered number) (terms_at work.new.bank literals.now) ≡ true) (IsNewAt work.new literals.now number)) }
     ensures grows { WorkGrows history.now work.old work.new }
     ensures memory { result ≡ Err Stop.OutOfSteps → ⊥ }
 {
     let name = numbered_name(work, history, number)?;
-    if occurs_in_these(&work.bank, name, literals)? {
+    if is_used(&work.bank, names, name) {
         Ok(None)
     } else {
         Ok(Some(name))
     }
 }
 
-/// The first number from one on whose variable stands in none of the literals. No memory holds names for all numbers.
+/// The first number from one on whose variable stands in none of the literals, whose variables have these names. No memory holds names
+/// for all numbers.
 pub fn next_name(
     work: &mut Work,
     history: &History,
     literals: &[TermId],
+    names: &HashMap<u64, bool>,
     first: u64,
 ) -> Result<Numbered, Stop>
     requires stands { WorkStands history.now work.old }
     requires literals { All (IsTermIn history.now work.old) literals.now }
+    requires names { AreNamesOf work.old.bank names.now (terms_at work.old.bank literals.now) }
     requires first { 1 ≤ first }
     ensures name { IfOk result (IsNext work.new literals.now first) }
     ensures fits { IfOk result (λ n. suc n.number < 2 ^ 64) }
@@ -130,7 +107,7 @@ pub fn next_name(
     ensures memory { result ≡ Err Stop.OutOfSteps → ⊥ }
 {
     for number in first..u64::MAX {
-        match new_name(work, history, literals, number)? {
+        match new_name(work, history, literals, names, number)? {
             Some(name) => return Ok(Numbered { name, number }),
             None => {}
         }

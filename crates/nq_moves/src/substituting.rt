@@ -179,6 +179,7 @@ fn try_moved_by(alloc: Global, found: Found, child: Vec<TermId>) -> Result<Moved
         pairs,
         literals,
         crossing: None,
+        eliminated: None,
     };
     Ok(Moved { children, why })
 }

@@ -246,6 +246,7 @@ fn try_moved(
         pairs: Vec::new(alloc),
         literals,
         crossing,
+        eliminated: None,
     };
     Ok(Moved { children, why })
 }

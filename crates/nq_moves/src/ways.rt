@@ -13,6 +13,7 @@ ghost use Rattle.nq_moves.specs.Ways.{IsWay, IsMove};
 
 use crate::crossing::close_swapped;
 use crate::dropping::{close_left, drop_first};
+use crate::eliminating::close_eliminated;
 use crate::moved::Moved;
 use crate::renaming::close_renamed;
 use crate::substituting::{close_substitution, substitute_first};
@@ -82,7 +83,7 @@ pub fn close_move(
         MoveKind::Gen => close_renamed(work, history, goal, moved, lines),
         MoveKind::Irr => close_left(work, history, goal, moved, lines),
         MoveKind::Simp => unreachable!(),
-        MoveKind::Elim => unreachable!(),
+        MoveKind::Elim => close_eliminated(work, history, goal, moved, lines),
         MoveKind::Ind => unreachable!(),
     }
 }

@@ -63,6 +63,7 @@ mod parted;
 
 // the mechanisms
 mod bases;
+mod defaults;
 mod distinct;
 mod divided;
 mod equal_parts;

@@ -11,6 +11,7 @@ use crate::trials::{FALSITY_IS_NONE, KINDS_DIFFER, TRUTH_IS_NONE, Trial, by_tria
 use nq_bank::{Bank, Sym, TermId, ground};
 use nq_history::History;
 use nq_kernel::{Stop, Work};
+use nq_rules::one_of;
 
 /// A recognizer of a term that is of another kind is F.
 pub fn by_kind(
@@ -149,4 +150,24 @@ pub fn kind_told(bank: &Bank, history: &History, h: TermId, a: TermId) -> Option
         return None;
     }
     recognized_kind(history, r)
+}
+
+/// Is it assumed that a term is not of the kind of the shell at a place?
+pub fn is_denied_kind(
+    bank: &Bank,
+    history: &History,
+    assumed: &[TermId],
+    place: usize,
+    a: TermId,
+) -> bool
+    requires assumed { All (Stands bank.now) assumed.now }
+{
+    for h in assumed {
+        if let Some(p) = one_of(bank, ground::NOT, *h) {
+            if kind_told(bank, history, p, a) == Some(place) {
+                return true;
+            }
+        }
+    }
+    false
 }

@@ -4,8 +4,9 @@ ghost use Rattle.nq_bank.specs.Content.{Stands, term_at, terms_at};
 ghost use Rattle.nq_kernel.specs.Growing.{WorkGrows};
 ghost use Rattle.nq_reduce.specs.Rewriting.{CanRewrite, IsRewritten};
 
+use crate::defaults::default_trial;
 use crate::kinds::{head_of, is_base_at, is_made_at, made_kind, one_argument, taken_part};
-use crate::recognizing::kind_told;
+use crate::recognizing::is_denied_kind;
 use crate::results::{Rewritten, unchanged};
 use crate::rows::Chosen;
 use crate::trials::{
@@ -15,7 +16,6 @@ use crate::trials::{
 use nq_bank::{Bank, Node, Sym, TermId, ground};
 use nq_history::History;
 use nq_kernel::{Stop, Work};
-use nq_rules::one_of;
 
 /// A part of an object just made is what it was made of, or the default where that may not be its part; a call that makes an
 /// object of the parts of another is that one; and the size of an object just made is told.
@@ -112,7 +112,10 @@ fn trial_for(
     if f.0 == ground::COUNT.0 {
         return size_trial(bank, history, arguments[0]);
     }
-    remade_trial(bank, history, f, arguments[0])
+    match remade_trial(bank, history, f, arguments[0]) {
+        Some(trial) => Some(trial),
+        None => default_trial(bank, history, assumed, f, arguments),
+    }
 }
 
 /// The row that tells a part of a term.
@@ -149,26 +152,6 @@ fn part_trial(
         part,
         chosen,
     })
-}
-
-/// Is it assumed that a term is not of the kind of the shell at a place?
-fn is_denied_kind(
-    bank: &Bank,
-    history: &History,
-    assumed: &[TermId],
-    place: usize,
-    a: TermId,
-) -> bool
-    requires assumed { All (Stands bank.now) assumed.now }
-{
-    for h in assumed {
-        if let Some(p) = one_of(bank, ground::NOT, *h) {
-            if kind_told(bank, history, p, a) == Some(place) {
-                return true;
-            }
-        }
-    }
-    false
 }
 
 /// The row that tells the size of an object just made.

@@ -30,6 +30,8 @@ pub const PART_OF_MADE: u64 = 6;
 pub const WRONG_PART_OF_MADE: u64 = 7;
 /// Where the object is of another kind.
 pub const PART_OF_OTHER: u64 = 8;
+/// Where the default takes the place of a part that the object may not have.
+pub const DEFAULT_FOR_WRONG_PART: u64 = 10;
 /// Where it is the base.
 pub const PART_OF_BASE: u64 = 9;
 /// Where an object is made of its own parts.

@@ -11,6 +11,7 @@ use Rattle.nq_bank.specs.declared.node.Mark.{Mark}
 use Rattle.nq_bank.specs.declared.node.Sym.{Sym}
 use Rattle.nq_bank.specs.declared.node.TermId.{TermId}
 use Rattle.nq_bank.specs.Content.{Content, Grows, Stands, term_at, terms_at, text_at}
+use Rattle.nq_bank.specs.Marks.{released}
 use Rattle.nq_bank.specs.Shells.{texts_at}
 use Rattle.nq_bank.proofs.Growth.{Grows-trans, IsNamed-grown, Stands-grown, term_at-grown, text_at-grown}
 use Rattle.nq_history.specs.Events.{events_at}
@@ -35,10 +36,11 @@ use Rattle.nq_measures.specs.Admitting.{NoneIsStructural}
 use Rattle.nq_spelling.specs.SpelledEvents.{IsSpelledMeasure, IsSpelledRecursion}
 use Rattle.nq_answers.specs.Claims.{claims_of}
 use Rattle.nq_answers.specs.Measuring.{AreTrials}
-use Rattle.nq_answers.specs.Steps.{AnswersUnless, IsDefined, after_event, measured_definition, untaken}
+use Rattle.nq_answers.specs.Steps.{AnswersUnless, IsDefined, after_event, is_taken, measured_definition, untaken}
 use Rattle.nq_run.specs.declared.recursions.Kept.{Kept}
 use Rattle.nq_run.specs.declared.session.Session.{Session}
 use Rattle.nq_run.specs.declared.session.Taken.{Taken}
+use Rattle.nq_run.specs.Banks.{LeavesBy}
 use Rattle.nq_run.specs.HistoryView.{history_of, SessionStands}
 use Rattle.nq_run.specs.Outcome.{AreBlocks}
 use Rattle.nq_run.specs.Recursions.{CanTry, IsKept, IsTriable, IsTriedTerm, kept_claims}
@@ -117,8 +119,11 @@ module _ (old : Session) (grown : Content) (name : Sym) (formals : List Sym) (bo
     pub session_stands : SessionStands (record { bank = bank; history = old.history })
     session_stands = subst (λ (b : Content). SessionStands (record { bank = b; history = old.history })) (sym same) (stands_grown old grown stands grows)
 
+    grew_on : (earlier : Content) → Grows earlier old.bank → Grows earlier bank
+    grew_on earlier grew = Grows-trans earlier old.bank bank grew (subst (Grows old.bank) (sym same) grows)
+
     pub mark_kept : (mark : Mark) → IsMarkBefore old.bank old.history mark → IsMarkBefore bank old.history mark
-    mark_kept mark is = record { earlier = is.earlier; mark_of = is.mark_of; grew = Grows-trans is.earlier old.bank bank is.grew (subst (Grows old.bank) (sym same) grows); held = is.held }
+    mark_kept mark is = record { earlier = is.earlier; mark_of = is.mark_of; grew = grew_on is.earlier is.grew; held = is.held }
 
     pub names_kept : FunctionNames bank name formals body
     names_kept = subst (λ (b : Content). FunctionNames b name formals body) (sym same) names_grown
@@ -148,24 +153,25 @@ module _ (old : Session) (grown : Content) (name : Sym) (formals : List Sym) (bo
     not_structural told is = back (λ (k : History) (n : Name) (ys : List Name) (u : Term). Each (λ x. IsAmong (size_measure x) (terms_at grown tried)) ys → IsStructural [] (plain_definition n ys u) → ⊥) is
         (subst (λ (ts : List Term). Each (λ x. IsAmong (size_measure x) ts) xs) (sym told) (sizes_tried ms xs))
 
-    pub left : (limit : ℕ) (form : Form) (logging : Bool) (trials : List Trial) (r : Taken) → terms_at grown tried ≡ tried_measures xs ms → NoneIsStructural old.history grown name formals body tried
+    pub left : (limit : ℕ) (mark : Mark) (form : Form) (logging : Bool) (trials : List Trial) (r : Taken) → IsMarkBefore old.bank old.history mark → terms_at grown tried ≡ tried_measures xs ms → NoneIsStructural old.history grown name formals body tried
         → AreTrials (events_at grown old.history) (plain_definition (text_at grown name) (texts_at grown formals) (term_at grown body)) (terms_at grown tried) trials
-        → IsUntaken (record { bank = bank; history = old.history }) (Unmeasured trials) r → TakesEvent limit h form (model.Defn f xs t ms) logging r
-    left limit form logging trials r told is all kept =
+        → IsUntaken (record { bank = bank; history = old.history }) mark (Unmeasured trials) r → TakesEvent limit old mark form (model.Defn f xs t ms) logging r
+    left limit mark form logging trials r before told is all kept =
         let answer : Answer = Unmeasured trials in
-        let own : IsUntaken old answer r = record { entries = kept.entries; same = kept.same ∙ session_same; stands = kept.stands; answer_is = kept.answer_is; block_is = kept.block_is } in
+        let released_same : released bank mark ≡ released old.bank mark = before.mark_of.returns bank (grew_on before.earlier before.grew) ∙ sym (before.mark_of.returns old.bank before.grew) in
+        let own : IsUntaken old mark answer r = record { bank = kept.bank ∙ released_same; entries = kept.entries; same = kept.same ∙ session_same; stands = kept.stands; answer_is = kept.answer_is; block_is = kept.block_is } in
         let here : AreTrials h (plain_definition f xs t) (tried_measures xs ms) trials = subst (λ (ts : List Term). AreTrials h (plain_definition f xs t) ts trials) told
         (back (λ (k : History) (n : Name) (ys : List Name) (u : Term). AreTrials k (plain_definition n ys u) (terms_at grown tried) trials) all) in
-        untaken_as limit old form (model.Defn f xs t ms) logging answer r own refl
+        untaken_as limit old mark form (model.Defn f xs t ms) logging answer r own refl
         (subst (λ (o : Option Answer). AnswersUnless limit o h form (model.Defn f xs t ms) answer) (sym none)
         (subst (λ (b : Bool). IsDefined b h f xs t ms answer) (sym again) (inr (record { plain = not_structural told is; trials = trials; told = here; answer_is = refl }))))
 
     -- a measure is kept
-    pub taken : (limit : ℕ) (form : Form) (logging : Bool) (kept : Kept) (block : List ℕ) (r : Taken) → terms_at grown tried ≡ tried_measures xs ms → IsKept grown old.history name formals body tried kept
+    pub taken : (limit : ℕ) (mark : Mark) (form : Form) (logging : Bool) (kept : Kept) (block : List ℕ) (r : Taken) → grown.names ≡ old.bank.names → terms_at grown tried ≡ tried_measures xs ms → IsKept grown old.history name formals body tried kept
         → (logging ≡ true → AreBlocks (events_at grown old.history) (kept_claims grown name formals body (Some kept)) block)
         → history_of r.session ≡ events_at bank old.history ++ Defines (measured_definition (text_at bank name) (texts_at bank formals) (term_at bank body) (term_at bank kept.measure)) ∷ []
-        → SessionStands r.session → answer_of r.answer ≡ AcceptedBy kept.place (printed (term_at bank kept.measure)) → r.block ≡ block → TakesEvent limit h form (model.Defn f xs t ms) logging r
-    taken limit form logging kept block r told is written after held answered block_is =
+        → SessionStands r.session → r.session.bank ≡ bank → answer_of r.answer ≡ AcceptedBy kept.place (printed (term_at bank kept.measure)) → r.block ≡ block → TakesEvent limit old mark form (model.Defn f xs t ms) logging r
+    taken limit mark form logging kept block r names told is written after held bank_is answered block_is =
         let m : Term = term_at grown kept.measure in
         let event : model.Event = model.Defn f xs t ms in
         let says : answer_of r.answer ≡ AcceptedBy kept.place (printed m) = answered ∙ ap (λ (b : Content). AcceptedBy kept.place (printed (term_at b kept.measure))) same in
@@ -180,6 +186,8 @@ module _ (old : Session) (grown : Content) (name : Sym) (formals : List Sym) (bo
               (inl (record { place = kept.place; measure = m; tried = place; admissible = admissible_here kept is; answer_is = refl }))));
           after_is = later ∙ ap (λ (o : Option Term). h ++ defined f xs t o ∷ []) (sym place) ∙ sym (ap (after_event h event) says);
           stands = held;
+          bank = subst (λ (a : Answer). LeavesBy (is_taken a) event mark old r.session) (sym says)
+              (subst (Grows old.bank) (sym (bank_is ∙ same)) grows, ap (λ (b : Content). b.names) (bank_is ∙ same) ∙ names);
           written = λ on.
               subst (λ (a : Answer). AreBlocks h (claims_of event a) r.block) (sym says)
               (subst (λ (o : Option Term). IsBlock h (Adds (defined f xs t o)) r.block) (sym place)
@@ -188,13 +196,14 @@ module _ (old : Session) (grown : Content) (name : Sym) (formals : List Sym) (bo
         }
 
     -- the same of what is answered to it
-    pub taken_on : (limit : ℕ) (form : Form) (logging : Bool) (kept : Kept) (block : List ℕ) (o : Result Taken AllocError) → terms_at grown tried ≡ tried_measures xs ms → IsKept grown old.history name formals body tried kept
+    pub taken_on : (limit : ℕ) (mark : Mark) (form : Form) (logging : Bool) (kept : Kept) (block : List ℕ) (o : Result Taken AllocError) → grown.names ≡ old.bank.names → terms_at grown tried ≡ tried_measures xs ms → IsKept grown old.history name formals body tried kept
         → (logging ≡ true → AreBlocks (events_at grown old.history) (kept_claims grown name formals body (Some kept)) block)
         → IfOk o (λ r. history_of r.session ≡ events_at bank old.history ++ Defines (measured_definition (text_at bank name) (texts_at bank formals) (term_at bank body) (term_at bank kept.measure)) ∷ [])
-        → IfOk o (λ r. SessionStands r.session) → IfOk o (λ r. answer_of r.answer ≡ AcceptedBy kept.place (printed (term_at bank kept.measure))) → IfOk o (λ r. r.block ≡ block)
-        → IfOk o (TakesEvent limit h form (model.Defn f xs t ms) logging)
-    taken_on limit form logging kept block (Err why) told is written after held answered block_is = tt
-    taken_on limit form logging kept block (Ok r) told is written after held answered block_is = taken limit form logging kept block r told is written after held answered block_is
+        → IfOk o (λ r. SessionStands r.session) → IfOk o (λ r. r.session.bank ≡ bank) → IfOk o (λ r. answer_of r.answer ≡ AcceptedBy kept.place (printed (term_at bank kept.measure))) → IfOk o (λ r. r.block ≡ block)
+        → IfOk o (TakesEvent limit old mark form (model.Defn f xs t ms) logging)
+    taken_on limit mark form logging kept block (Err why) names told is written after held bank_is answered block_is = tt
+    taken_on limit mark form logging kept block (Ok r) names told is written after held bank_is answered block_is =
+        taken limit mark form logging kept block r names told is written after held bank_is answered block_is
 
 -- what is kept of a measure that was found
 pub kept_some : (bank : Content) (history : List Entry) (name : Sym) (formals : List Sym) (body : TermId) (tried : List TermId) (o : Option Kept) (kept : Kept) → o ≡ Some kept

@@ -10,6 +10,7 @@ use Rattle.nq_logic.specs.Histories.{History}
 use Rattle.nq_logic.specs.Names.{is_in_use, looked_up}
 use Rattle.nq_logic.specs.ShellPrinciple.{first_repeated}
 use Rattle.nq_form.specs.Form.{Form}
+use Rattle.nq_bank.specs.declared.node.Mark.{Mark}
 use Rattle.nq_history.specs.declared.entry.Entry.{Entry}
 use Rattle.nq_history.specs.Events.{event_at}
 use Rattle.nq_log.specs.States.{Claim}
@@ -34,7 +35,7 @@ use Rattle.nq_run.specs.declared.session.Taken.{Taken}
 use Rattle.nq_run.specs.HistoryView.{history_of}
 use Rattle.nq_run.specs.Outcome.{AreBlocks}
 use Rattle.nq_run.specs.Sessions.{IsAdded, TakesEvent}
-use Rattle.nq_run.proofs.TakingLemmas.{accepted_as}
+use Rattle.nq_run.proofs.TakingLemmas.{accepted_as, IsKeeping}
 
 -- ---- what an answer tells of a session's event
 
@@ -47,7 +48,7 @@ none_told o why told none = sym told ∙ ap (option_map answer_of) none
 -- ---- events that are accepted
 
 -- nothing keeps the event from being taken, and its entry stands at the end
-module _ (limit : ℕ) (old : Session) (form : Form) (event : model.Event) (logging : Bool) (entry : Entry) (claim : Claim) (block : List ℕ) (none : untaken (history_of old) event ≡ None)
+module _ (limit : ℕ) (old : Session) (mark : Mark) (form : Form) (event : model.Event) (keeping : IsKeeping event) (logging : Bool) (entry : Entry) (claim : Claim) (block : List ℕ) (none : untaken (history_of old) event ≡ None)
     (outcome : IsOutcome limit (history_of old) form event Accepted) (later : history_after (history_of old) event None ≡ history_of old ++ event_at old.bank entry ∷ [])
     (claims : event_claims event None ≡ claim ∷ []) (text : logging ≡ true → IsBlock (history_of old) claim block) where
   blocks : (text_of : List ℕ) → text_of ≡ block → logging ≡ true → AreBlocks (history_of old) (event_claims event None) text_of
@@ -55,8 +56,8 @@ module _ (limit : ℕ) (old : Session) (form : Form) (event : model.Event) (logg
       subst (λ (cs : List Claim). AreBlocks (history_of old) cs text_of) (sym claims) (subst (IsBlock (history_of old) claim) (sym written) (text on))
 
   pub accepted : {E : Type 0} (r : Result Taken E) → IfOk r (λ t. IsAdded old entry t.session) → IfOk r (λ t. t.answer ≡ answers.Accepted) → IfOk r (λ t. t.block ≡ block)
-      → IfOk r (TakesEvent limit (history_of old) form event logging)
-  accepted (Ok t) added told written = accepted_as limit old form event entry logging t added told none outcome later (blocks t.block written)
+      → IfOk r (TakesEvent limit old mark form event logging)
+  accepted (Ok t) added told written = accepted_as limit old mark form event keeping entry logging t added told none outcome later (blocks t.block written)
   accepted (Err e) added told written = tt
 
 -- the name of an event that may be added is free

@@ -20,6 +20,8 @@ use Rattle.nq_block.specs.OpenLogs.{IsOpenLog, header_text}
 use Rattle.nq_block.proofs.OpenLaws.{log_begins_law}
 use Rattle.nq_answers.specs.Claims.{claims_at}
 use Rattle.nq_run.proofs.LogLemmas.{log_more, one_block, logs_after, logs_same, logs_within, logs_within_after, within_after, within_whole}
+use Rattle.nq_run.specs.HistoryView.{history_of}
+use Rattle.nq_run.specs.declared.session.Session.{Session}
 use Rattle.nq_run.specs.Outcome as outcome
 use Rattle.nq_run.specs.Outcome.{Answered, Begun, BreaksLast, BreaksReport, CutOff, FilledLog, Finished, FinishedLog, Full, GrowsWithin, Halted, held_in, Interrupted, IsFinishedLog, IsLogOf, LacksLast, last_text, Logs, LogsWithin, PartialLog, Ran, Stopped, Turned, TurnStopped, UnendedLog, WriteFails, WroteWithin}
 use Rattle.nq_answers.specs.Steps.{Runs, Step, after}
@@ -140,17 +142,17 @@ log_after : (limit : ℕ) (logging : Bool) (earlier : Forms) (reports : List Rep
 log_after limit true earlier reports old new form report log block runs so_far answered is = log_more limit earlier reports old new form report log block runs (so_far refl) answered
 log_after limit false earlier reports old new form report log block runs so_far answered is = cc
 
-pub Ran-more : (limit : ℕ) (logging : Bool) (earlier : Forms) (form : Form) (old new : History) (t u : Totals) (count later : ℕ) (a b c : outcome.Held)
-    → Ran limit logging earlier old t count a b → Turned limit logging form old new t u count later b c → Ran limit logging (push earlier form) new u later a c
+pub Ran-more : (limit : ℕ) (logging : Bool) (earlier : Forms) (form : Form) (old new : Session) (t u : Totals) (count later : ℕ) (a b c : outcome.Held)
+    → Ran limit logging earlier (history_of old) t count a b → Turned limit logging form old new t u count later b c → Ran limit logging (push earlier form) (history_of new) u later a c
 Ran-more limit logging earlier form old new t u count later a b c ran turned = record {
   reports = ran.reports ++ turned.report ∷ [];
-  runs = Runs-more limit [] earlier ran.reports old form turned.report new ran.runs turned.answered.step;
+  runs = Runs-more limit [] earlier ran.reports (history_of old) form turned.report (history_of new) ran.runs turned.answered.step;
   counted = turned.totals ∙ ap (with_report turned.report) ran.counted ∙ sym (totals_of-more ran.reports turned.report);
   text = subst (Appends a.comment c.comment) (sym (lines_of-turn ran.reports turned.report t.forms (forms_counted ran.reports t ran.counted)))
       (Appends-trans a.comment b.comment c.comment _ _ ran.text turned.text);
   log = ran.log ++ turned.block;
   logs = logs_after logging a.log b.log c.log ran.log turned.block ran.logs turned.log;
-  log_is = log_after limit logging earlier ran.reports old new form turned.report ran.log turned.block ran.runs ran.log_is turned.answered;
+  log_is = log_after limit logging earlier ran.reports (history_of old) (history_of new) form turned.report ran.log turned.block ran.runs ran.log_is turned.answered;
   log_count = λ logs. turned.log_count logs ∙ ap (λ n. n + length turned.block) (ran.log_count logs) ∙ sym (length-append ran.log turned.block);
 }
 
@@ -307,7 +309,7 @@ begun_interrupted limit logging left a b kept logs = record {
 
 -- ---- where it is told in another way whether a log is written
 
-pub turned_as : (limit : ℕ) (l m : Bool) (form : Form) (old new : History) (t u : Totals) (count later : ℕ) (a b : outcome.Held) → l ≡ m → Turned limit l form old new t u count later a b
+pub turned_as : (limit : ℕ) (l m : Bool) (form : Form) (old new : Session) (t u : Totals) (count later : ℕ) (a b : outcome.Held) → l ≡ m → Turned limit l form old new t u count later a b
     → Turned limit m form old new t u count later a b
 turned_as limit l m form old new t u count later a b same turned = subst (λ (z : Bool). Turned limit z form old new t u count later a b) same turned
 

@@ -9,6 +9,7 @@ use Rattle.nq_logic.specs.Derivations.{Derivable}
 use Rattle.nq_logic.specs.Histories.{History, RuleClass}
 use Rattle.nq_logic.specs.Histories as logic
 use Rattle.nq_form.specs.Form.{Form}
+use Rattle.nq_bank.specs.declared.node.Mark.{Mark}
 use Rattle.nq_log.specs.States.{Adds}
 use Rattle.nq_block.specs.Blocks.{IsBlock}
 use Rattle.nq_comment.specs.Reports.{Answer, Failed, OutOfSteps, ProvedFrom, ShownStep as ToldStep}
@@ -53,7 +54,7 @@ used_up limit h t result is found = let here : IsInNoFragment h t × IsUsedUp li
 moved_block : (h : History) (name : Name) (t : Term) (result : Found) (line : ℕ) (block : List ℕ) → result ≡ Moves line → AreBlocks h (found_claims name t result) block → IsBlock h (Adds (logic.Lemma name [] t)) block
 moved_block h name t result line block is blocks = subst (λ (f : Found). AreBlocks h (found_claims name t f) block) is blocks
 
-module _ (limit : ℕ) (old : Session) (form : Form) (name : Name) (classes : List RuleClass) (t : Term) (hints : model.Hints) (judged : Judged) (result : Found) (logging : Bool) where
+module _ (limit : ℕ) (old : Session) (mark : Mark) (form : Form) (name : Name) (classes : List RuleClass) (t : Term) (hints : model.Hints) (judged : Judged) (result : Found) (logging : Bool) where
   abbrev h : History
   h = history_of old
 
@@ -83,31 +84,31 @@ module _ (limit : ℕ) (old : Session) (form : Form) (name : Name) (classes : Li
         (subst (λ (o : Option Cause). MatchOption o (IsFalse h first → ⊥) (IsCauseOf h hints first shown)) (sym known_is) (still_told h hints first shown judged.cause proved told.cause))
 
     -- a goal is left over
-    pub failed : (cause : Cause) (r : Taken) → known ≡ Some cause → IsUntaken old (answer_of (answers.Failed judged.text judged.steps cause)) r
-        → TriesLemma limit h form name classes t hints logging r
+    pub failed : (cause : Cause) (r : Taken) → known ≡ Some cause → IsUntaken old mark (answer_of (answers.Failed judged.text judged.steps cause)) r
+        → TriesLemma limit old mark form name classes t hints logging r
     failed cause r is kept =
         let answer : Answer = Failed (goal_text first) shown cause in
         let same : answer_of (answers.Failed judged.text judged.steps cause) ≡ answer = ap (λ (x : List ℕ). Failed x shown cause) told.text in
-        lemma_left limit old form name classes t hints answer logging r refl (by_cause cause (told_by (Some cause) is)) (subst (λ (a : Answer). IsUntaken old a r) same kept)
+        lemma_left limit old mark form name classes t hints answer logging r refl (by_cause cause (told_by (Some cause) is)) (subst (λ (a : Answer). IsUntaken old mark a r) same kept)
 
     -- where no cause is told it is not false
     pub not_false : known ≡ None → IsFalse h first → ⊥
     not_false never = told_by None never
 
     -- steps ran out
-    pub ran_out : (r : Taken) → known ≡ None → result ≡ finding.OutOfSteps → IsUntaken old OutOfSteps r → TriesLemma limit h form name classes t hints logging r
+    pub ran_out : (r : Taken) → known ≡ None → result ≡ finding.OutOfSteps → IsUntaken old mark OutOfSteps r → TriesLemma limit old mark form name classes t hints logging r
     ran_out r never is kept =
-        lemma_left limit old form name classes t hints OutOfSteps logging r refl
+        lemma_left limit old mark form name classes t hints OutOfSteps logging r refl
         (by_search (record { no_fragment = none; not_false = not_false never; found = inr (inl (refl, used_up limit h t result is found)) })) kept
 
     -- moves proved it
     pub moved : (o : Result Taken AllocError) (line : ℕ) (steps : Vec ShownStep Global) (block : List ℕ) → known ≡ None → result ≡ Moves line → ShowsTrace h hints first (steps_of steps.items)
         → (logging ≡ true → AreBlocks h (found_claims name t result) block)
         → IfOk o (λ r. history_of r.session ≡ h ++ logic.Lemma name classes t ∷ []) → IfOk o (λ r. SessionStands r.session)
-        → IfOk o (λ r. r.answer ≡ answers.ProvedFrom judged.text steps) → IfOk o (λ r. r.block ≡ block) → IfOk o (TriesLemma limit h form name classes t hints logging)
-    moved o line steps block never is trace text later stands says written =
+        → IfOk o (λ r. r.session.bank ≡ old.bank) → IfOk o (λ r. r.answer ≡ answers.ProvedFrom judged.text steps) → IfOk o (λ r. r.block ≡ block) → IfOk o (TriesLemma limit old mark form name classes t hints logging)
+    moved o line steps block never is trace text later stands bank says written =
         let answer : Answer = ProvedFrom (goal_text first) (steps_of steps.items) in
         let same : answer_of (answers.ProvedFrom judged.text steps) ≡ answer = ap (λ (x : List ℕ). ProvedFrom x (steps_of steps.items)) told.text in
-        proved_on limit o h form name classes t hints (answers.ProvedFrom judged.text steps) answer logging block refl
+        proved_on limit o old mark form name classes t hints (answers.ProvedFrom judged.text steps) answer logging block refl
         (by_search (record { no_fragment = none; not_false = not_false never; found = inl (record { shown = moved_derivable limit h t result line is found; steps = steps_of steps.items; told = trace; answer_is = refl }) }))
-        later stands says same written (λ on. moved_block h name t result line block is (text on))
+        later stands bank says same written (λ on. moved_block h name t result line block is (text on))

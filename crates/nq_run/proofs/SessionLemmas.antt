@@ -1,8 +1,8 @@
 -- What a session is after a form.
-use Rattle.std.proofs.Common.{◌≡◌, ℕ, Bool, true, false, List, [], ◌∷◌, ◌++◌, ◌<◌, ◌≤◌, length, take, refl, ap, sym, subst, ◌∙◌, arith, ltb-true}
+use Rattle.std.proofs.Common.{◌≡◌, ℕ, Bool, true, false, List, [], ◌∷◌, ◌++◌, ◌<◌, ◌≤◌, drop, length, take, refl, ap, sym, subst, ◌∙◌, arith, ltb-true}
 use Rattle.std.proofs.lemmas.Bool.{lt-leb}
-use Rattle.std.proofs.lemmas.List.{length-map, length-take, take_all}
-use Rattle.std.specs.Prelude.{All, IsTrue, Err, IfSome, Ok, Option, None, Some, is_some, if◌then◌else◌, nat_eq}
+use Rattle.std.proofs.lemmas.List.{drop_more, length-map, length-take, take_all}
+use Rattle.std.specs.Prelude.{All, IsTrue, Err, IfSome, Ok, Option, None, Some, get_or, is_some, if◌then◌else◌, nat_eq}
 use Rattle.nq_logtext.specs.Symbols.{is_symbol}
 use Rattle.nq_logic.specs.Terms.{Each, Name}
 use Rattle.nq_logic.specs.Histories.{History}
@@ -14,7 +14,7 @@ use Rattle.nq_bank.specs.Content.{Content, Grows}
 use Rattle.nq_bank.specs.Marks.{IsMarkOf, released}
 use Rattle.nq_history.specs.declared.entry.Entry.{Entry}
 use Rattle.nq_history.specs.Events.{all_events_at, event_at, events_at, ground_length, past_ground, EntryStands, HistoryStands}
-use Rattle.nq_history.specs.Marking.{AreMarked, IsMarked}
+use Rattle.nq_history.specs.Marking.{given_back, AreMarked, IsMarked}
 use Rattle.nq_history.specs.Lookups.{event_limit, entries_before, entry_named, push_fault, undo_answer, undo_result, IsAnswer, IsUndo}
 use Rattle.nq_history.specs.declared.history.PushFault.{PushFault}
 use Rattle.nq_history.specs.declared.history.PushFault.TheVariants.{Memory, NameInUse, TooManyEvents}
@@ -39,6 +39,7 @@ use Rattle.nq_kernel.specs.Ready.{IsReady, IsReadyEvent}
 use Rattle.nq_kernel.proofs.ReadyLemmas.{ready_before, ready_more}
 use Rattle.nq_spelling.specs.SpelledEvents.{FewNamesBegin, FewNamesGrow, FewNamesStay, HasFewNames}
 use Rattle.nq_run.specs.declared.session.Session.{Session}
+use Rattle.nq_run.specs.Banks.{IsGivenBack}
 use Rattle.nq_run.specs.HistoryView.{history_of, SessionStands}
 use Rattle.nq_run.specs.Sessions.{IsAdded, IsMarkBefore, IsUntaken}
 
@@ -82,6 +83,12 @@ ground_within bank history stands =
     let ground_size : length ground_history ≡ ground_length = refl in
     let size = length-map history (event_at bank) in
     omega (arith, ap length stands.ground ∙ ground_size, length-take ground_length (all_events_at bank history), size)
+
+-- what is left of a session that goes back to it
+pub ground_given_back : (old new : Session) → SessionStands old → new.history ≡ take ground_length old.history → new.bank ≡ given_back old.bank (drop ground_length old.history) → IsGivenBack old new
+ground_given_back old new stands is given =
+    let size : ground_length ≡ length new.history = omega (arith, ap length is, length-take ground_length old.history, ground_within old.bank old.history stands.history) in
+    given ∙ ap (λ (n : ℕ). given_back old.bank (drop n old.history)) size
 
 -- there are no others where there is no event past it
 pub ground_alone : (bank : Content) (history : List Entry) → all_events_at bank history ≡ ground_history → take ground_length history ≡ history
@@ -138,10 +145,11 @@ module _ (old : Session) (mark : Mark) (stands : SessionStands old) (before : Is
 
   -- the session as it was before the form
   pub untaken_is : (bank : Content) (answer : FormAnswer) (block : List ℕ) → bank ≡ released old.bank mark → block ≡ []
-      → IsUntaken old (answer_of answer) (record { session = record { bank = bank; history = old.history }; answer = answer; block = block })
+      → IsUntaken old mark (answer_of answer) (record { session = record { bank = bank; history = old.history }; answer = answer; block = block })
   untaken_is bank answer block is none =
       let back : bank ≡ before.earlier = is ∙ before.mark_of.returns old.bank before.grew in
       record {
+        bank = is;
         entries = refl;
         same = ap (λ (b : Content). events_at b old.history) back ∙ earlier_history;
         stands = subst (λ (b : Content). SessionStands (record { bank = b; history = old.history })) (sym back) earlier_stands;
@@ -156,6 +164,7 @@ pub added_is : FewNamesGrow → (old : Session) (entry : Entry) (name : Name) (l
     → HistoryStands old.bank later → AreMarked old.bank later → events_at old.bank later ≡ history_of old ++ event_at old.bank entry ∷ []
     → IsAdded old entry (record { bank = old.bank; history = later })
 added_is grow old entry name later stands free symbols few ready history marked is = record {
+  bank = refl;
   after = is;
   stands = record {
     history = history;
@@ -217,6 +226,14 @@ module _ (old : Session) (name : Sym) (n : ℕ) (new : Session) (stands : Sessio
       let back : new.bank ≡ at.earlier = gone ∙ at.mark.returns old.bank at.grew in
       let held : All (EntryStands at.earlier) new.history = subst (All (EntryStands at.earlier)) left (λ i d less. (at.held i d less).entry) in
       ap (λ (b : Content). events_at b new.history) back ∙ sym (events_at-grown at.earlier old.bank at.grew new.history held)
+
+  -- what is left of the bank is what it held below the mark of the event that is named
+  pub undone_bank : IsGivenBack old new
+  undone_bank =
+      let size : length new.history ≡ length (entries_before name old.history) = ap length history_is in
+      let here : there.0 ≡ get_or old.history (length (entries_before name old.history)) there.0 = named_at name old.history there.0 there.1 in
+      gone ∙ ap (λ (e : Entry). released old.bank e.mark) here
+      ∙ sym (ap (given_back old.bank) (ap (λ (n : ℕ). drop n old.history) size ∙ drop_more old.history (length (entries_before name old.history)) there.0 place.0))
 
   -- the first entries are left
   pub undone_take : take (length new.history) old.history ≡ new.history

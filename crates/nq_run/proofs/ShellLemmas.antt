@@ -227,8 +227,8 @@ module _ (limit : ℕ) (old : Session) (form : Form) (s : Shell) (mark : Mark) (
 
   pub shell_added : {E : Type 0} (r : Result Taken E) → own_refusal (history_of old) (model.AddShell added_shell) ≡ None → (logging ≡ true → IsBlock (history_of old) (Adds (logic.AddShell added_shell)) block)
       → IfOk r (λ t. IsAdded old (shell_entry s mark) t.session) → IfOk r (λ t. t.answer ≡ answers.Accepted) → IfOk r (λ t. t.block ≡ block)
-      → IfOk r (TakesEvent limit (history_of old) form (model.AddShell added_shell) logging)
+      → IfOk r (TakesEvent limit old mark form (model.AddShell added_shell) logging)
   shell_added (Ok t) lawful written added accepted text =
-      accepted_as limit old form (model.AddShell added_shell) (shell_entry s mark) logging t added accepted (ap refused lawful) refl refl
+      accepted_as limit old mark form (model.AddShell added_shell) tt (shell_entry s mark) logging t added accepted (ap refused lawful) refl refl
       (λ on. subst (IsBlock (history_of old) (Adds (logic.AddShell added_shell))) (sym text) (written on))
   shell_added (Err e) lawful written added accepted text = tt

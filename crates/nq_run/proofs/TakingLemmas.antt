@@ -14,6 +14,9 @@ use Rattle.nq_logic.specs.Names.{is_in_use}
 use Rattle.nq_form.specs.Form.{Form}
 use Rattle.nq_form.specs.Widths.{IsNarrow}
 use Rattle.nq_bank.specs.Content.{Content, Grows}
+use Rattle.nq_bank.specs.Marks.{IsMarkOf}
+use Rattle.nq_bank.specs.declared.node.Mark.{Mark}
+use Rattle.nq_bank.proofs.Growth.{Grows-refl}
 use Rattle.nq_history.specs.declared.entry.Entry.{Entry}
 use Rattle.nq_history.specs.declared.entry.Class.{Class}
 use Rattle.nq_history.specs.Events.{class_of, event_at as entry_event, events_at}
@@ -47,6 +50,7 @@ use Rattle.nq_answers.specs.Claims.{claims_at, claims_of, event_claims}
 use Rattle.nq_answers.specs.Steps.{AnswersUnless, IsOutcome, IsTried, by_tautology, by_evaluation, by_instance, after_event, first_answer, is_taken, refusal_answer, refused, untaken}
 use Rattle.nq_answers.proofs.Deriving.{TakesNothing, no_refusal, refused_nothing}
 use Rattle.nq_run.specs.Answers.{IsAnswerTo, quick_of}
+use Rattle.nq_run.specs.Banks.{IsGivenBack, KeepsBank, Leaves, LeavesBy}
 use Rattle.nq_run.specs.HistoryView.{history_of, SessionStands}
 use Rattle.nq_run.specs.Outcome.{AreBlocks}
 use Rattle.nq_run.specs.declared.proving.Found.{Found}
@@ -109,9 +113,9 @@ taken_not : (o : Option Answer) (answer : Answer) → Some answer ≡ o → Take
 taken_not None answer e nothing = absurd cc
 taken_not (Some a) answer e nothing = let same : answer ≡ a = cc in ap is_taken same ∙ nothing
 
-module _ (limit : ℕ) (old : Session) (form : Form) (event : model.Event) (logging : Bool) (answer : Answer) (r : Taken) (is : IsUntaken old answer r) where
+module _ (limit : ℕ) (old : Session) (mark : Mark) (form : Form) (event : model.Event) (logging : Bool) (answer : Answer) (r : Taken) (is : IsUntaken old mark answer r) where
   -- the session as it was
-  pub untaken_as : is_taken answer ≡ false → AnswersUnless limit (untaken (history_of old) event) (history_of old) form event answer → TakesEvent limit (history_of old) form event logging r
+  pub untaken_as : is_taken answer ≡ false → AnswersUnless limit (untaken (history_of old) event) (history_of old) form event answer → TakesEvent limit old mark form event logging r
   untaken_as nothing answered =
       let h : History = history_of old in
       let told : is_taken (answer_of r.answer) ≡ false = ap is_taken is.answer_is ∙ nothing in
@@ -119,11 +123,12 @@ module _ (limit : ℕ) (old : Session) (form : Form) (event : model.Event) (logg
         answered = subst (AnswersUnless limit (untaken h event) h form event) (sym is.answer_is) answered;
         after_is = is.same ∙ sym (kept_after h event (answer_of r.answer) told);
         stands = is.stands;
+        bank = subst (λ (b : Bool). LeavesBy b event mark old r.session) (sym told) is.bank;
         written = λ on. no_block h (claims_of event (answer_of r.answer)) r.block is.block_is (no_claims event (answer_of r.answer) told);
       }
 
   -- an event that something keeps from being taken
-  pub hindered : Some answer ≡ untaken (history_of old) event → TakesEvent limit (history_of old) form event logging r
+  pub hindered : Some answer ≡ untaken (history_of old) event → TakesEvent limit old mark form event logging r
   hindered why =
       untaken_as (taken_not (untaken (history_of old) event) answer why (refused_nothing (own_refusal (history_of old) event)))
       (subst (λ (o : Option Answer). AnswersUnless limit o (history_of old) form event answer) why refl)
@@ -145,25 +150,36 @@ module _ (old : Session) (bank : Content) (form : Form) (event : Event) (logging
       subst (λ (h : History). IsSpelledEvent h (event_at bank event)) (sym (same_history old bank stands grows))
       (subst (IsSpelledEvent (history_of old)) (sym is.is) own)
 
+  -- what the event leaves in the bank that has grown is what the form keeps of the one before
+  keeps_bank : (mark : Mark) → IsMarkOf old.bank mark → (taken : Bool) (new : Session) → LeavesBy taken (event_of (history_of old) form) mark (record { bank = bank; history = old.history }) new → KeepsBank taken old form new
+  keeps_bank mark of true new left = (bank, grows, left)
+  keeps_bank mark of false new left = left ∙ of.returns bank grows
+
   -- what the event is answered is what the form is answered
-  pub takes_form : (limit : ℕ) (r : Taken) → IsEventOf bank (reading (events_at old.bank old.history) form) event → TakesEvent limit (events_at bank old.history) form (event_at bank event) logging r → Takes limit (history_of old) form logging r
-  takes_form limit r read taken =
+  pub takes_form : (limit : ℕ) (mark : Mark) (r : Taken) → IsMarkOf old.bank mark → IsEventOf bank (reading (events_at old.bank old.history) form) event
+      → TakesEvent limit (record { bank = bank; history = old.history }) mark form (event_at bank event) logging r → Takes limit old form logging r
+  takes_form limit mark r of read taken =
       let is = read_here read in
       let h : History = history_of old in
-      let here : TakesEvent limit h form (event_at bank event) logging r = subst (λ (k : History). TakesEvent limit k form (event_at bank event) logging r) (same_history old bank stands grows) taken in
-      let own : TakesEvent limit h form (event_of h form) logging r = subst (λ (e : model.Event). TakesEvent limit h form e logging r) is.is here in
+      let grown : Session = record { bank = bank; history = old.history } in
+      let same : history_of grown ≡ h = same_history old bank stands grows in
+      let own : TakesEvent limit grown mark form (event_of h form) logging r = subst (λ (e : model.Event). TakesEvent limit grown mark form e logging r) is.is taken in
+      let answered : AnswersUnless limit (untaken h (event_of h form)) h form (event_of h form) (answer_of r.answer) =
+      subst (λ (k : History). AnswersUnless limit (untaken k (event_of h form)) k form (event_of h form) (answer_of r.answer)) same own.answered in
       record {
-        answered = subst (λ (o : Option Refusal). AnswersUnless limit (first_answer (refused o) (untaken h (event_of h form))) h form (event_of h form) (answer_of r.answer)) (sym is.lawful) own.answered;
-        after_is = own.after_is;
+        answered = subst (λ (o : Option Refusal). AnswersUnless limit (first_answer (refused o) (untaken h (event_of h form))) h form (event_of h form) (answer_of r.answer)) (sym is.lawful) answered;
+        after_is = own.after_is ∙ ap (λ (k : History). after_event k (event_of h form) (answer_of r.answer)) same;
         stands = own.stands;
-        written = own.written;
+        bank = keeps_bank mark of (is_taken (answer_of r.answer)) r.session own.bank;
+        written = λ on. subst (λ (k : History). AreBlocks k (claims_of (event_of h form) (answer_of r.answer)) r.block) same (own.written on);
       }
 
 -- a form of which no event was read
-pub refused_form : (limit : ℕ) (old grown : Session) (form : Form) (logging : Bool) (why : EventFault) (answer : FormAnswer) (r : Taken) → history_of grown ≡ history_of old
-    → IsFaultOf (reading (events_at old.bank old.history) form) why → IsAnswerTo why answer → IsUntaken grown (answer_of answer) r → Takes limit (history_of old) form logging r
-refused_form limit old grown form logging fault.Memory answer r same told is kept = absurd is
-refused_form limit old grown form logging (fault.Refused code words) answer r same told is kept =
+pub refused_form : (limit : ℕ) (old grown : Session) (mark : Mark) (form : Form) (logging : Bool) (why : EventFault) (answer : FormAnswer) (r : Taken) → history_of grown ≡ history_of old
+    → IsMarkOf old.bank mark → Grows old.bank grown.bank
+    → IsFaultOf (reading (events_at old.bank old.history) form) why → IsAnswerTo why answer → IsUntaken grown mark (answer_of answer) r → Takes limit old form logging r
+refused_form limit old grown mark form logging fault.Memory answer r same of grows told is kept = absurd is
+refused_form limit old grown mark form logging (fault.Refused code words) answer r same of grows told is kept =
     let h : History = history_of old in
     let own = refused_for h form code words told in
     let says : answer_of r.answer ≡ refusal_answer own.refusal = kept.answer_is ∙ is ∙ own.told in
@@ -172,22 +188,48 @@ refused_form limit old grown form logging (fault.Refused code words) answer r sa
       answered = subst (λ (o : Option Refusal). AnswersUnless limit (first_answer (refused o) (untaken h (event_of h form))) h form (event_of h form) (answer_of r.answer)) (sym own.met) says;
       after_is = kept.same ∙ same ∙ sym (kept_after h (event_of h form) (answer_of r.answer) nothing);
       stands = kept.stands;
+      bank = subst (λ (b : Bool). KeepsBank b old form r.session) (sym nothing) (kept.bank ∙ of.returns grown.bank grows);
       written = λ on. no_block h (claims_at h form (answer_of r.answer)) r.block kept.block_is (no_claims (event_of h form) (answer_of r.answer) nothing);
     }
 
 -- ---- an event that is accepted
 
-pub accepted_as : (limit : ℕ) (old : Session) (form : Form) (event : model.Event) (entry : Entry) (logging : Bool) (r : Taken) → IsAdded old entry r.session → r.answer ≡ answers.Accepted
+-- an event that takes no others away
+abbrev pub IsKeeping : model.Event → Type 0
+IsKeeping model.BootStrap = ⊥
+IsKeeping (model.AddShell shell) = Unit {0}
+IsKeeping (model.Dcl name formals) = Unit {0}
+IsKeeping (model.Defn name formals body measures) = Unit {0}
+IsKeeping (model.AddAxiom name classes t) = Unit {0}
+IsKeeping (model.ProveLemma name classes t hints) = Unit {0}
+IsKeeping (model.Toggle name old disabled) = Unit {0}
+IsKeeping (model.Undo name) = ⊥
+IsKeeping model.Skipped = Unit {0}
+
+-- nothing but what was read is left in the bank
+leaves_same : (event : model.Event) (read new : Session) → IsKeeping event → new.bank ≡ read.bank → Leaves event read new
+leaves_same model.BootStrap read new keeping same = absurd keeping
+leaves_same (model.AddShell shell) read new keeping same = same
+leaves_same (model.Dcl name formals) read new keeping same = same
+leaves_same (model.Defn name formals body measures) read new keeping same = (subst (Grows read.bank) (sym same) (Grows-refl read.bank), ap (λ (b : Content). b.names) same)
+leaves_same (model.AddAxiom name classes t) read new keeping same = same
+leaves_same (model.ProveLemma name classes t hints) read new keeping same = same
+leaves_same (model.Toggle name old disabled) read new keeping same = same
+leaves_same (model.Undo name) read new keeping same = absurd keeping
+leaves_same model.Skipped read new keeping same = same
+
+pub accepted_as : (limit : ℕ) (old : Session) (mark : Mark) (form : Form) (event : model.Event) (keeping : IsKeeping event) (entry : Entry) (logging : Bool) (r : Taken) → IsAdded old entry r.session → r.answer ≡ answers.Accepted
     → untaken (history_of old) event ≡ None → IsOutcome limit (history_of old) form event Accepted
     → history_after (history_of old) event None ≡ history_of old ++ entry_event old.bank entry ∷ []
-    → (logging ≡ true → AreBlocks (history_of old) (event_claims event None) r.block) → TakesEvent limit (history_of old) form event logging r
-accepted_as limit old form event entry logging r added accepted free outcome later block =
+    → (logging ≡ true → AreBlocks (history_of old) (event_claims event None) r.block) → TakesEvent limit old mark form event logging r
+accepted_as limit old mark form event keeping entry logging r added accepted free outcome later block =
     let h : History = history_of old in
     let said : answer_of r.answer ≡ Accepted = ap answer_of accepted in
     record {
       answered = subst (AnswersUnless limit (untaken h event) h form event) (sym said) (subst (λ (o : Option Answer). AnswersUnless limit o h form event Accepted) (sym free) outcome);
       after_is = added.after ∙ sym later ∙ sym (ap (after_event h event) said);
       stands = added.stands;
+      bank = subst (λ (a : Answer). LeavesBy (is_taken a) event mark old r.session) (sym said) (leaves_same event old r.session keeping added.bank);
       written = λ on. subst (λ (a : Answer). AreBlocks h (claims_of event a) r.block) (sym said) (block on);
     }
 
@@ -207,9 +249,9 @@ pub passed_answered : (limit : ℕ) (h : History) (form : Form) → AnswersUnles
 passed_answered limit h form = subst (λ (o : Option Refusal). AnswersUnless limit (refused o) h form model.Skipped Skipped) (sym (passed_lawful h)) refl
 
 -- the ground history again
-pub grounded : (limit : ℕ) (old new : Session) (form : Form) (logging : Bool) (text : List ℕ) → history_of new ≡ [] → SessionStands new
-    → (logging ≡ true → IsBlock (history_of old) Grounded text) → TakesEvent limit (history_of old) form model.BootStrap logging (record { session = new; answer = answers.Accepted; block = text })
-grounded limit old new form logging text empty stands block = record { answered = boot_answered limit (history_of old) form; after_is = empty; stands = stands; written = block }
+pub grounded : (limit : ℕ) (old new : Session) (mark : Mark) (form : Form) (logging : Bool) (text : List ℕ) → history_of new ≡ [] → SessionStands new → IsGivenBack old new
+    → (logging ≡ true → IsBlock (history_of old) Grounded text) → TakesEvent limit old mark form model.BootStrap logging (record { session = new; answer = answers.Accepted; block = text })
+grounded limit old new mark form logging text empty stands given block = record { answered = boot_answered limit (history_of old) form; after_is = empty; stands = stands; bank = given; written = block }
 
 -- ---- axioms and lemmas
 
@@ -234,44 +276,48 @@ module _ (h : History) (name : Name) (classes : List RuleClass) (t : Term) where
       record { symbol = spelled.symbol; unused = statable.addable.unused; room = lt-ltb (length h) 10000 statable.addable.room }
 
 -- an axiom that was added
-pub axiom_taken : (limit : ℕ) (old : Session) (form : Form) (entry : Entry) (name : Name) (classes : List RuleClass) (t : Term) (logging : Bool) (r : Taken) → refused (formula_refusal (history_of old) name classes t) ≡ None
+pub axiom_taken : (limit : ℕ) (old : Session) (mark : Mark) (form : Form) (entry : Entry) (name : Name) (classes : List RuleClass) (t : Term) (logging : Bool) (r : Taken) → refused (formula_refusal (history_of old) name classes t) ≡ None
     → entry_event old.bank entry ≡ logic.Axiom name classes t → IsAdded old entry r.session → r.answer ≡ answers.Accepted
-    → (logging ≡ true → IsBlock (history_of old) (Adds (logic.Axiom name [] t)) r.block) → TakesEvent limit (history_of old) form (model.AddAxiom name classes t) logging r
-axiom_taken limit old form entry name classes t logging r none is added accepted block =
+    → (logging ≡ true → IsBlock (history_of old) (Adds (logic.Axiom name [] t)) r.block) → TakesEvent limit old mark form (model.AddAxiom name classes t) logging r
+axiom_taken limit old mark form entry name classes t logging r none is added accepted block =
     let h : History = history_of old in
-    accepted_as limit old form (model.AddAxiom name classes t) entry logging r added accepted (ap refused (axiom_is h name classes t) ∙ none) refl (ap (λ (e : logic.Event). h ++ e ∷ []) (sym is)) block
+    accepted_as limit old mark form (model.AddAxiom name classes t) tt entry logging r added accepted (ap refused (axiom_is h name classes t) ∙ none) refl (ap (λ (e : logic.Event). h ++ e ∷ []) (sym is)) block
 
 -- the same of what is answered to it
-pub axiom_taken_on : (limit : ℕ) (old : Session) (form : Form) (entry : Entry) (name : Name) (classes : List RuleClass) (t : Term) (logging : Bool) (block : List ℕ) (o : Result Taken AllocError)
+pub axiom_taken_on : (limit : ℕ) (old : Session) (mark : Mark) (form : Form) (entry : Entry) (name : Name) (classes : List RuleClass) (t : Term) (logging : Bool) (block : List ℕ) (o : Result Taken AllocError)
     → refused (formula_refusal (history_of old) name classes t) ≡ None → entry_event old.bank entry ≡ logic.Axiom name classes t
     → IfOk o (λ r. IsAdded old entry r.session) → IfOk o (λ r. r.answer ≡ answers.Accepted) → IfOk o (λ r. r.block ≡ block)
-    → (logging ≡ true → IsBlock (history_of old) (Adds (logic.Axiom name [] t)) block) → IfOk o (TakesEvent limit (history_of old) form (model.AddAxiom name classes t) logging)
-axiom_taken_on limit old form entry name classes t logging block (Err why) none is added accepted same written = tt
-axiom_taken_on limit old form entry name classes t logging block (Ok r) none is added accepted same written =
-    axiom_taken limit old form entry name classes t logging r none is added accepted (λ on. subst (IsBlock (history_of old) (Adds (logic.Axiom name [] t))) (sym same) (written on))
+    → (logging ≡ true → IsBlock (history_of old) (Adds (logic.Axiom name [] t)) block) → IfOk o (TakesEvent limit old mark form (model.AddAxiom name classes t) logging)
+axiom_taken_on limit old mark form entry name classes t logging block (Err why) none is added accepted same written = tt
+axiom_taken_on limit old mark form entry name classes t logging block (Ok r) none is added accepted same written =
+    axiom_taken limit old mark form entry name classes t logging r none is added accepted (λ on. subst (IsBlock (history_of old) (Adds (logic.Axiom name [] t))) (sym same) (written on))
 
 -- a lemma that was tried
-pub tried_lemma : (limit : ℕ) (h : History) (form : Form) (name : Name) (classes : List RuleClass) (t : Term) (hints : model.Hints) (logging : Bool) (r : Taken) → refused (formula_refusal h name classes t) ≡ None
-    → TriesLemma limit h form name classes t hints logging r → TakesEvent limit h form (model.ProveLemma name classes t hints) logging r
-tried_lemma limit h form name classes t hints logging r none tries =
+pub tried_lemma : (limit : ℕ) (old : Session) (mark : Mark) (form : Form) (name : Name) (classes : List RuleClass) (t : Term) (hints : model.Hints) (logging : Bool) (r : Taken) → refused (formula_refusal (history_of old) name classes t) ≡ None
+    → TriesLemma limit old mark form name classes t hints logging r → TakesEvent limit old mark form (model.ProveLemma name classes t hints) logging r
+tried_lemma limit old mark form name classes t hints logging r none tries =
+    let h : History = history_of old in
     let event : model.Event = model.ProveLemma name classes t hints in
     record {
       answered = subst (λ (o : Option Answer). AnswersUnless limit o h form event (answer_of r.answer)) (sym (ap refused (lemma_is h name classes t hints) ∙ none)) tries.tried;
       after_is = tries.after_is;
       stands = tries.stands;
+      bank = tries.bank;
       written = tries.written;
     }
 
 -- a lemma that was proved and added
-pub lemma_proved : (limit : ℕ) (h : History) (form : Form) (name : Name) (classes : List RuleClass) (t : Term) (hints : model.Hints) (answer : Answer) (logging : Bool) (r : Taken) → is_taken answer ≡ true → IsTried limit h form hints t answer
-    → history_of r.session ≡ h ++ logic.Lemma name classes t ∷ [] → SessionStands r.session → answer_of r.answer ≡ answer
-    → (logging ≡ true → IsBlock h (Adds (logic.Lemma name [] t)) r.block) → TriesLemma limit h form name classes t hints logging r
-lemma_proved limit h form name classes t hints answer logging r takes tried later stands says block =
+pub lemma_proved : (limit : ℕ) (old : Session) (mark : Mark) (form : Form) (name : Name) (classes : List RuleClass) (t : Term) (hints : model.Hints) (answer : Answer) (logging : Bool) (r : Taken) → is_taken answer ≡ true
+    → IsTried limit (history_of old) form hints t answer → history_of r.session ≡ history_of old ++ logic.Lemma name classes t ∷ [] → SessionStands r.session → r.session.bank ≡ old.bank → answer_of r.answer ≡ answer
+    → (logging ≡ true → IsBlock (history_of old) (Adds (logic.Lemma name [] t)) r.block) → TriesLemma limit old mark form name classes t hints logging r
+lemma_proved limit old mark form name classes t hints answer logging r takes tried later stands same says block =
+    let h : History = history_of old in
     let told : is_taken (answer_of r.answer) ≡ true = ap is_taken says ∙ takes in
     record {
       tried = subst (IsTried limit h form hints t) (sym says) tried;
       after_is = later ∙ sym (ap (λ (b : Bool). if b then h ++ logic.Lemma name classes t ∷ [] else h) told);
       stands = stands;
+      bank = subst (λ (b : Bool). LeavesBy b (model.ProveLemma name classes t hints) mark old r.session) (sym told) same;
       written = λ on. subst (λ (b : Bool). AreBlocks h (if b then Adds (logic.Lemma name [] t) ∷ [] else []) r.block) (sym told) (block on);
     }
 
@@ -282,14 +328,15 @@ fragment_tried limit h form hints t Eval first shown = by_evaluation (record { f
 fragment_tried limit h form hints t Inst first shown = by_instance first refl
 
 -- a lemma that is not taken
-pub lemma_left : (limit : ℕ) (old : Session) (form : Form) (name : Name) (classes : List RuleClass) (t : Term) (hints : model.Hints) (answer : Answer) (logging : Bool) (r : Taken) → is_taken answer ≡ false
-    → IsTried limit (history_of old) form hints t answer → IsUntaken old answer r → TriesLemma limit (history_of old) form name classes t hints logging r
-lemma_left limit old form name classes t hints answer logging r takes tried kept =
+pub lemma_left : (limit : ℕ) (old : Session) (mark : Mark) (form : Form) (name : Name) (classes : List RuleClass) (t : Term) (hints : model.Hints) (answer : Answer) (logging : Bool) (r : Taken) → is_taken answer ≡ false
+    → IsTried limit (history_of old) form hints t answer → IsUntaken old mark answer r → TriesLemma limit old mark form name classes t hints logging r
+lemma_left limit old mark form name classes t hints answer logging r takes tried kept =
     let nothing : is_taken (answer_of r.answer) ≡ false = ap is_taken kept.answer_is ∙ takes in
     record {
       tried = subst (IsTried limit (history_of old) form hints t) (sym kept.answer_is) tried;
       after_is = kept.same ∙ sym (kept_by (is_taken (answer_of r.answer)) (history_of old) _ nothing);
       stands = kept.stands;
+      bank = subst (λ (b : Bool). LeavesBy b (model.ProveLemma name classes t hints) mark old r.session) (sym nothing) kept.bank;
       written = λ on. no_block (history_of old) (lemma_claims name t (answer_of r.answer)) r.block kept.block_is (none_by (is_taken (answer_of r.answer)) _ nothing);
     }
 
@@ -315,13 +362,13 @@ no_way limit h t finding.OutOfSteps is found = found.0
 no_way limit h t finding.Unknown is found = found
 
 -- what is answered to a lemma that was proved and added
-pub proved_on : (limit : ℕ) (o : Result Taken AllocError) (h : History) (form : Form) (name : Name) (classes : List RuleClass) (t : Term) (hints : model.Hints) (told : FormAnswer) (answer : Answer) (logging : Bool) (block : List ℕ)
-    → is_taken answer ≡ true → IsTried limit h form hints t answer → IfOk o (λ r. history_of r.session ≡ h ++ logic.Lemma name classes t ∷ []) → IfOk o (λ r. SessionStands r.session)
-    → IfOk o (λ r. r.answer ≡ told) → answer_of told ≡ answer → IfOk o (λ r. r.block ≡ block) → (logging ≡ true → IsBlock h (Adds (logic.Lemma name [] t)) block)
-    → IfOk o (TriesLemma limit h form name classes t hints logging)
-proved_on limit (Err why) h form name classes t hints told answer logging block takes tried later stands says is written text = tt
-proved_on limit (Ok r) h form name classes t hints told answer logging block takes tried later stands says is written text =
-    lemma_proved limit h form name classes t hints answer logging r takes tried later stands (ap answer_of says ∙ is) (λ on. subst (IsBlock h (Adds (logic.Lemma name [] t))) (sym written) (text on))
+pub proved_on : (limit : ℕ) (o : Result Taken AllocError) (old : Session) (mark : Mark) (form : Form) (name : Name) (classes : List RuleClass) (t : Term) (hints : model.Hints) (told : FormAnswer) (answer : Answer) (logging : Bool) (block : List ℕ)
+    → is_taken answer ≡ true → IsTried limit (history_of old) form hints t answer → IfOk o (λ r. history_of r.session ≡ history_of old ++ logic.Lemma name classes t ∷ []) → IfOk o (λ r. SessionStands r.session)
+    → IfOk o (λ r. r.session.bank ≡ old.bank) → IfOk o (λ r. r.answer ≡ told) → answer_of told ≡ answer → IfOk o (λ r. r.block ≡ block) → (logging ≡ true → IsBlock (history_of old) (Adds (logic.Lemma name [] t)) block)
+    → IfOk o (TriesLemma limit old mark form name classes t hints logging)
+proved_on limit (Err why) old mark form name classes t hints told answer logging block takes tried later stands same says is written text = tt
+proved_on limit (Ok r) old mark form name classes t hints told answer logging block takes tried later stands same says is written text =
+    lemma_proved limit old mark form name classes t hints answer logging r takes tried later stands same (ap answer_of says ∙ is) (λ on. subst (IsBlock (history_of old) (Adds (logic.Lemma name [] t))) (sym written) (text on))
 
 -- what a formula's answer tells, where its classes are these
 pub told_none : (h : History) (name : Name) (xs ys : List Class) (t : Term) (o : Option FormAnswer) → xs ≡ ys → option_map answer_of o ≡ refused (formula_refusal h name (map class_of xs) t) → o ≡ None

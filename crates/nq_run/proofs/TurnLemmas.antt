@@ -10,6 +10,7 @@ use Rattle.nq_answers.specs.Steps.{after}
 use Rattle.nq_run.specs.HistoryView.{history_of}
 use Rattle.nq_run.specs.Outcome.{Answered}
 use Rattle.nq_run.specs.Sessions.{Takes}
+use Rattle.nq_run.specs.declared.session.Session.{Session}
 use Rattle.nq_run.specs.declared.session.Taken.{Taken}
 
 -- the report of a form that was answered so
@@ -23,16 +24,16 @@ reports_alike answer word other_word name other_name words names =
     ap₂ (λ (w n : Option (List ℕ)). record { word = w; name = n; answer = answer }) words names
 
 -- a form that the program answered so
-pub answered_as : (limit : ℕ) (old : History) (f : Form) (logging : Bool) (r : Taken) → Takes limit old f logging r → Answered limit f old (history_of r.session) (reported_as f (answer_of r.answer)) logging r.block
+pub answered_as : (limit : ℕ) (old : Session) (f : Form) (logging : Bool) (r : Taken) → Takes limit old f logging r → Answered limit f (history_of old) (history_of r.session) (reported_as f (answer_of r.answer)) logging r.block
 answered_as limit old f logging r taken = record {
   step = record { word = refl; name = refl; answer = taken.answered; history = taken.after_is };
   written = taken.written;
 }
 
 -- the same, where the history is not told
-pub answered_here : (limit : ℕ) (old : History) (f : Form) (logging : Bool) (r : Taken) → Takes limit old f logging r → Answered limit f old (after old f (answer_of r.answer)) (reported_as f (answer_of r.answer)) logging r.block
+pub answered_here : (limit : ℕ) (old : Session) (f : Form) (logging : Bool) (r : Taken) → Takes limit old f logging r → Answered limit f (history_of old) (after (history_of old) f (answer_of r.answer)) (reported_as f (answer_of r.answer)) logging r.block
 answered_here limit old f logging r taken =
-    subst (λ (h : History). Answered limit f old h (reported_as f (answer_of r.answer)) logging r.block) taken.after_is (answered_as limit old f logging r taken)
+    subst (λ (h : History). Answered limit f (history_of old) h (reported_as f (answer_of r.answer)) logging r.block) taken.after_is (answered_as limit old f logging r taken)
 
 pub answered_logging : (limit : ℕ) (old new : History) (f : Form) (report : Report) (logging : Bool) (block : List ℕ) → logging ≡ true → Answered limit f old new report logging block
     → Answered limit f old new report true block

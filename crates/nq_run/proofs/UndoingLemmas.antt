@@ -6,6 +6,7 @@ use Rattle.nq_logic.specs.Histories.{History}
 use Rattle.nq_logic.specs.Ground.{ground_history}
 use Rattle.nq_logic.specs.Names.{before_event, event_in, looked_up}
 use Rattle.nq_form.specs.Form.{Form}
+use Rattle.nq_bank.specs.declared.node.Mark.{Mark}
 use Rattle.nq_history.specs.Lookups.{IsGroundEvent, IsUndoable}
 use Rattle.nq_log.specs.States.{Undoes}
 use Rattle.nq_block.specs.Blocks.{IsBlock}
@@ -16,6 +17,7 @@ use Rattle.nq_events.specs.OwnRefusals.{own_refusal, refused_if}
 use Rattle.nq_events.specs.Refusals.{Refusal, GroundEvent, NoSuchEvent}
 use Rattle.nq_events.specs.TermRefusals.{first}
 use Rattle.nq_answers.specs.Steps.{AnswersUnless, refusal_answer, refused, untaken}
+use Rattle.nq_run.specs.Banks.{IsGivenBack}
 use Rattle.nq_run.specs.HistoryView.{history_of, SessionStands}
 use Rattle.nq_run.specs.Sessions.{TakesEvent}
 use Rattle.nq_run.specs.declared.session.Session.{Session}
@@ -43,13 +45,14 @@ unfolding undo_refusal
 undo_ground h form x answer ground is = ap (λ (a : Answer). Some a) is ∙ sym (ap refused (refusal_is h x true true ground.known ground.ground))
 
 -- the event and all later ones are gone
-pub undo_taken : (limit : ℕ) (old new : Session) (form : Form) (x : Name) (count : ℕ) (logging : Bool) (text : List ℕ) → IsUndoable x (history_of old) count → history_of new ≡ before_event x (history_of old)
-    → SessionStands new → (logging ≡ true → IsBlock (history_of old) (Undoes x) text)
-    → TakesEvent limit (history_of old) form (model.Undo x) logging (record { session = new; answer = answers.Undone count; block = text })
-undo_taken limit old new form x count logging text is before stands block = record {
+pub undo_taken : (limit : ℕ) (old new : Session) (mark : Mark) (form : Form) (x : Name) (count : ℕ) (logging : Bool) (text : List ℕ) → IsUndoable x (history_of old) count → history_of new ≡ before_event x (history_of old)
+    → SessionStands new → IsGivenBack old new → (logging ≡ true → IsBlock (history_of old) (Undoes x) text)
+    → TakesEvent limit old mark form (model.Undo x) logging (record { session = new; answer = answers.Undone count; block = text })
+undo_taken limit old new mark form x count logging text is before stands given block = record {
   answered = subst (λ (o : Option Refusal). AnswersUnless limit (refused o) (history_of old) form (model.Undo x) (Undone count)) (sym (undo_lawful (history_of old) x is.known is.past))
       (ap (λ (n : ℕ). Undone n) is.count);
   after_is = before;
   stands = stands;
+  bank = given;
   written = block;
 }

@@ -2,6 +2,7 @@
 use Rattle.std.specs.Prelude.{◌≡◌, ℕ, false, List}
 use Rattle.nq_logic.specs.Terms.{Term}
 use Rattle.nq_form.specs.Form.{Form}
+use Rattle.nq_bank.specs.declared.node.Mark.{Mark}
 use Rattle.nq_events.specs.Events.{Hints}
 use Rattle.nq_comment.specs.Reports.{Answer, Failed as FailedBy, OutOfSteps as NoSteps}
 use Rattle.nq_comment.specs.ReportViews.{steps_of}
@@ -20,8 +21,8 @@ answer_by form text OutOfSteps = NoSteps
 answer_by form text Unknown = not_yet form
 
 -- the lemma is not taken, with an answer that it may get
-pub record IsLeft (limit : ℕ) (old : Session) (form : Form) (hints : Hints) (t : Term) (r : Taken) : Type 0 where
+pub record IsLeft (limit : ℕ) (old : Session) (mark : Mark) (form : Form) (hints : Hints) (t : Term) (r : Taken) : Type 0 where
   pub answer : Answer
   pub tried : IsTried limit (history_of old) form hints t answer
   pub not_taken : is_taken answer ≡ false
-  pub untaken : IsUntaken old answer r
+  pub untaken : IsUntaken old mark answer r

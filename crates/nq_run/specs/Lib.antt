@@ -1,4 +1,5 @@
 pub mod HistoryView
+pub mod Banks
 pub mod Answers
 pub mod ShellNames
 pub mod Outcome

@@ -19,7 +19,10 @@ use Rattle.nq_comment.specs.Totals.{Totals, totals_of, unsuccessful, with_report
 use Rattle.nq_comment.specs.declared.report.SyntaxFault.{SyntaxFault}
 use Rattle.nq_answers.specs.Claims.{claims_at, claims_from}
 use Rattle.nq_answers.specs.Derived.{Reported}
-use Rattle.nq_answers.specs.Steps.{Runs, Step, after}
+use Rattle.nq_answers.specs.Steps.{Runs, Step, after, is_taken}
+use Rattle.nq_run.specs.Banks.{KeepsBank}
+use Rattle.nq_run.specs.HistoryView.{history_of}
+use Rattle.nq_run.specs.declared.session.Session.{Session}
 
 -- what is held grew by the text, or by a front part of it
 pub record GrowsWithin (old new : Option (List ℕ)) (text : List ℕ) : Type 0 where
@@ -77,11 +80,13 @@ pub record Answered (limit : ℕ) (form : Form) (old new : History) (report : Re
   pub step : Step limit old form report new
   pub written : logging ≡ true → AreBlocks old (claims_at old form report.answer) block
 
--- one form was run, and the sinks gained the lines of its report and its block
-pub record Turned (limit : ℕ) (logging : Bool) (form : Form) (old new : History) (before later : Totals) (count next : ℕ) (held now : Held) : Type 0 where
+-- One form was run, and the sinks gained the lines of its report and its block. Where its event is not taken, the bank is as it
+-- was before the form.
+pub record Turned (limit : ℕ) (logging : Bool) (form : Form) (old new : Session) (before later : Totals) (count next : ℕ) (held now : Held) : Type 0 where
   pub report : Report
   pub block : List ℕ
-  pub answered : Answered limit form old new report logging block
+  pub answered : Answered limit form (history_of old) (history_of new) report logging block
+  pub bank : KeepsBank (is_taken report.answer) old form new
   pub totals : later ≡ with_report report before
   pub text : Appends held.comment now.comment (lines_of_report (before.forms + 1) report)
   pub log : Logs logging held.log now.log block

@@ -5,7 +5,7 @@ use Rattle.nq_logic.specs.Formulas.{holds}
 use Rattle.nq_logic.specs.Derivations.{Derivable}
 use Rattle.nq_logic.specs.Histories.{History, Lemma, RuleClass}
 use Rattle.nq_bank.specs.Content.{Content, Grows, term_at, text_at}
-use Rattle.nq_bank.specs.Marks.{IsMarkOf}
+use Rattle.nq_bank.specs.Marks.{IsMarkOf, released}
 use Rattle.nq_bank.specs.declared.node.Mark.{Mark}
 use Rattle.nq_bank.specs.declared.node.Sym.{Sym}
 use Rattle.nq_bank.specs.declared.node.TermId.{TermId}
@@ -23,7 +23,7 @@ use Rattle.nq_kernel.specs.Proving.{IsFirstFragment}
 use Rattle.nq_fragments.specs.Fragments.{IsInNoFragment}
 use Rattle.nq_form.specs.Form.{Form}
 use Rattle.nq_log.specs.States.{Claim, Adds}
-use Rattle.nq_events.specs.Events.{Event, Hints}
+use Rattle.nq_events.specs.Events.{Event, ProveLemma, Hints}
 use Rattle.nq_comment.specs.Reports.{Answer}
 use Rattle.nq_comment.specs.ReportViews.{answer_of}
 use Rattle.nq_run.specs.declared.session.Session.{Session}
@@ -33,6 +33,7 @@ use Rattle.nq_run.specs.declared.proving.Found.TheVariants as finding
 use Rattle.nq_run.specs.declared.proving.Found.TheVariants.{Fragment, Moves}
 use Rattle.nq_run.specs.declared.proving.Tried.{Tried}
 use Rattle.nq_answers.specs.Claims.{claims_at, claims_of}
+use Rattle.nq_run.specs.Banks.{KeepsBank, LeavesBy}
 use Rattle.nq_run.specs.HistoryView.{history_of, SessionStands}
 use Rattle.nq_run.specs.Outcome.{AreBlocks}
 use Rattle.nq_answers.specs.Spending.{IsUsedUp}
@@ -97,32 +98,36 @@ pub record IsMarkBefore (bank : Content) (history : List Entry) (mark : Mark) : 
   pub grew : Grows earlier bank
   pub held : All (IsWithin earlier) history
 
--- the session as it was before the form, with this answer, and no block
-pub record IsUntaken (old : Session) (answer : Answer) (r : Taken) : Type 0 where
+-- the session as it was before the form, with this answer, and no block: the bank is released to the mark
+pub record IsUntaken (old : Session) (mark : Mark) (answer : Answer) (r : Taken) : Type 0 where
+  pub bank : r.session.bank ≡ released old.bank mark
   pub entries : r.session.history ≡ old.history
   pub same : history_of r.session ≡ history_of old
   pub stands : SessionStands r.session
   pub answer_is : answer_of r.answer ≡ answer
   pub block_is : r.block ≡ []
 
--- one event more stands at the end
+-- one event more stands at the end, and the bank is the same
 pub record IsAdded (old : Session) (entry : Entry) (new : Session) : Type 0 where
+  pub bank : new.bank ≡ old.bank
   pub after : history_of new ≡ history_of old ++ event_at old.bank entry ∷ []
   pub stands : SessionStands new
 
--- what a form is answered, the session after it, and the block of what it claims
-pub record Takes (limit : ℕ) (old : History) (form : Form) (logging : Bool) (r : Taken) : Type 0 where
-  pub answered : Answers limit old form (answer_of r.answer)
-  pub after_is : history_of r.session ≡ after old form (answer_of r.answer)
+-- what a form is answered, the session after it, what is kept of its bank, and the block of what the form claims
+pub record Takes (limit : ℕ) (old : Session) (form : Form) (logging : Bool) (r : Taken) : Type 0 where
+  pub answered : Answers limit (history_of old) form (answer_of r.answer)
+  pub after_is : history_of r.session ≡ after (history_of old) form (answer_of r.answer)
   pub stands : SessionStands r.session
-  pub written : logging ≡ true → AreBlocks old (claims_at old form (answer_of r.answer)) r.block
+  pub bank : KeepsBank (is_taken (answer_of r.answer)) old form r.session
+  pub written : logging ≡ true → AreBlocks (history_of old) (claims_at (history_of old) form (answer_of r.answer)) r.block
 
--- the same for the event of a form that isn't refused
-pub record TakesEvent (limit : ℕ) (old : History) (form : Form) (event : Event) (logging : Bool) (r : Taken) : Type 0 where
-  pub answered : AnswersUnless limit (untaken old event) old form event (answer_of r.answer)
-  pub after_is : history_of r.session ≡ after_event old event (answer_of r.answer)
+-- The same for the event of a form that isn't refused. The form was read into the bank, and the mark was taken before.
+pub record TakesEvent (limit : ℕ) (old : Session) (mark : Mark) (form : Form) (event : Event) (logging : Bool) (r : Taken) : Type 0 where
+  pub answered : AnswersUnless limit (untaken (history_of old) event) (history_of old) form event (answer_of r.answer)
+  pub after_is : history_of r.session ≡ after_event (history_of old) event (answer_of r.answer)
   pub stands : SessionStands r.session
-  pub written : logging ≡ true → AreBlocks old (claims_of event (answer_of r.answer)) r.block
+  pub bank : LeavesBy (is_taken (answer_of r.answer)) event mark old r.session
+  pub written : logging ≡ true → AreBlocks (history_of old) (claims_of event (answer_of r.answer)) r.block
 
 -- the history after a lemma, and its claim, where it was proved
 abbrev pub after_lemma : History → Name → List RuleClass → Term → Answer → History
@@ -132,8 +137,9 @@ abbrev pub lemma_claims : Name → Term → Answer → List Claim
 lemma_claims name t answer = if is_taken answer then Adds (Lemma name [] t) ∷ [] else []
 
 -- the same for a lemma that nothing keeps from being tried
-pub record TriesLemma (limit : ℕ) (old : History) (form : Form) (name : Name) (classes : List RuleClass) (t : Term) (hints : Hints) (logging : Bool) (r : Taken) : Type 0 where
-  pub tried : IsTried limit old form hints t (answer_of r.answer)
-  pub after_is : history_of r.session ≡ after_lemma old name classes t (answer_of r.answer)
+pub record TriesLemma (limit : ℕ) (old : Session) (mark : Mark) (form : Form) (name : Name) (classes : List RuleClass) (t : Term) (hints : Hints) (logging : Bool) (r : Taken) : Type 0 where
+  pub tried : IsTried limit (history_of old) form hints t (answer_of r.answer)
+  pub after_is : history_of r.session ≡ after_lemma (history_of old) name classes t (answer_of r.answer)
   pub stands : SessionStands r.session
-  pub written : logging ≡ true → AreBlocks old (lemma_claims name t (answer_of r.answer)) r.block
+  pub bank : LeavesBy (is_taken (answer_of r.answer)) (ProveLemma name classes t hints) mark old r.session
+  pub written : logging ≡ true → AreBlocks (history_of old) (lemma_claims name t (answer_of r.answer)) r.block

@@ -64,7 +64,7 @@ impl Session {
         requires event { DefnStands self.bank name formals.items body measures.now }
         requires spelled { IsSpelledRecursion (history_of self) (text_at self.bank name) (texts_at self.bank formals.items) (term_at self.bank body)
             (map (measure_at self.bank) measures.now) }
-        ensures taken { IfOk result (TakesEvent given.entry.steps (history_of self) (tree given.entry.form.now)
+        ensures taken { IfOk result (TakesEvent given.entry.steps self given.entry.mark (tree given.entry.form.now)
             (model.Defn (text_at self.bank name) (texts_at self.bank formals.items) (term_at self.bank body) (map (measure_at self.bank) measures.now)) given.entry.logging) }
         ensures learnt { IfOk result (λ r. P.has_learnt prover.new r.session.history) }
     {

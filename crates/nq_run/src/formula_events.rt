@@ -88,7 +88,7 @@ impl Session {
         requires name { IsNamed self.bank name }
         requires term { Stands self.bank term }
         requires spelled { IsSpelledFormula (history_of self) (text_at self.bank name) (term_at self.bank term) }
-        ensures taken { IfOk result (TakesEvent given.entry.steps (history_of self) (tree given.entry.form.now)
+        ensures taken { IfOk result (TakesEvent given.entry.steps self given.entry.mark (tree given.entry.form.now)
             (model.AddAxiom (text_at self.bank name) (map class_of classes.items) (term_at self.bank term)) given.entry.logging) }
         ensures learnt { IfOk result (λ r. P.has_learnt prover.new r.session.history) }
     {
@@ -124,7 +124,7 @@ impl Session {
         requires hints { HintsStand self.bank lemma.hints.now }
         requires hint_terms { HintsAreIn self.bank self.history lemma.hints.now }
         requires spelled { IsSpelledFormula (history_of self) (text_at self.bank lemma.name) (term_at self.bank lemma.goal) }
-        ensures taken { IfOk result (TakesEvent given.entry.steps (history_of self) (tree given.entry.form.now)
+        ensures taken { IfOk result (TakesEvent given.entry.steps self given.entry.mark (tree given.entry.form.now)
             (model.ProveLemma (text_at self.bank lemma.entry.name) (map class_of classes.items) (term_at self.bank lemma.entry.goal) (hints_at self.bank lemma.entry.hints.now)) given.entry.logging) }
         ensures learnt { IfOk result (λ r. P.has_learnt prover.new r.session.history) }
     {
@@ -152,7 +152,7 @@ impl Session {
         requires hint_terms { HintsAreIn self.bank self.history lemma.hints.now }
         requires spelled { IsSpelledFormula (history_of self) (text_at self.bank lemma.name) (term_at self.bank lemma.goal) }
         requires free { IsFree (history_of self) (text_at self.bank lemma.name) }
-        ensures tries { IfOk result (TriesLemma given.entry.steps (history_of self) (tree given.entry.form.now) (text_at self.bank lemma.entry.name) (map class_of classes.items) (term_at self.bank lemma.entry.goal)
+        ensures tries { IfOk result (TriesLemma given.entry.steps self given.entry.mark (tree given.entry.form.now) (text_at self.bank lemma.entry.name) (map class_of classes.items) (term_at self.bank lemma.entry.goal)
             (hints_at self.bank lemma.entry.hints.now) given.entry.logging) }
         ensures learnt { IfOk result (λ r. P.has_learnt prover.new r.session.history) }
     {
@@ -211,6 +211,7 @@ impl Session {
         requires shown { Derivable (history_of self) (holds (term_at self.bank lemma.goal)) }
         ensures after { IfOk result (λ r. history_of r.session ≡ history_of self ++ logic.Lemma (text_at self.bank lemma.entry.name) (map class_of classes.items) (term_at self.bank lemma.entry.goal) ∷ []) }
         ensures stands_after { IfOk result (λ r. SessionStands r.session) }
+        ensures bank { IfOk result (λ r. r.session.bank ≡ self.bank) }
         ensures answer { IfOk result (λ r. r.answer ≡ answer) }
         ensures block { IfOk result (λ r. r.block ≡ block) }
         ensures learnt { IfOk result (λ r. P.has_learnt prover.new r.session.history) }
@@ -253,7 +254,7 @@ impl Session {
         requires found { IsFoundBy given.steps (history_of self) (term_at self.bank lemma.goal) found }
         requires other { way_in found ≡ None }
         requires written { given.logging ≡ true → AreBlocks (history_of self) (found_claims (text_at self.bank lemma.name) (term_at self.bank lemma.goal) found) block }
-        ensures tries { IfOk result (TriesLemma given.entry.steps (history_of self) (tree given.entry.form.now) (text_at self.bank lemma.entry.name) (map class_of classes.items) (term_at self.bank lemma.entry.goal)
+        ensures tries { IfOk result (TriesLemma given.entry.steps self given.entry.mark (tree given.entry.form.now) (text_at self.bank lemma.entry.name) (map class_of classes.items) (term_at self.bank lemma.entry.goal)
             (hints_at self.bank lemma.entry.hints.now) given.entry.logging) }
         ensures learnt { IfOk result (λ r. P.has_learnt prover.new r.session.history) }
     {

@@ -58,7 +58,7 @@ impl Session {
         requires outside { IsInNoFragment (history_of self) (term_at self.bank lemma.goal) }
         requires not_false { IsFalse (history_of self) (first_goal (history_of self) (hints_at self.bank lemma.hints.now) (term_at self.bank lemma.goal)) → ⊥ }
         requires text { text.items ≡ goal_text (first_goal (history_of self) (hints_at self.bank lemma.hints.now) (term_at self.bank lemma.goal)) }
-        ensures { IfOk result (IsLeft given.entry.steps self (tree given.entry.form.now) (hints_at self.bank lemma.entry.hints.now) (term_at self.bank lemma.entry.goal)) }
+        ensures { IfOk result (IsLeft given.entry.steps self given.entry.mark (tree given.entry.form.now) (hints_at self.bank lemma.entry.hints.now) (term_at self.bank lemma.entry.goal)) }
     {
         let Session { bank, history } = self;
         let given_up = give_up(alloc, bank, &history, lemma.hints, lemma.goal, given.steps)?;

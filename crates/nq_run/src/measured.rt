@@ -49,7 +49,7 @@ impl Session {
             (map (measure_at self.bank) measures.now) }
         requires free { untaken (history_of self) (events.Defn (text_at self.bank name) (texts_at self.bank formals.items) (term_at self.bank body) (map (measure_at self.bank) measures.now)) ≡ None }
         requires recursive { mentions (text_at self.bank name) (term_at self.bank body) ≡ true }
-        ensures taken { IfOk result (TakesEvent given.entry.steps (history_of self) (tree given.entry.form.now)
+        ensures taken { IfOk result (TakesEvent given.entry.steps self given.entry.mark (tree given.entry.form.now)
             (events.Defn (text_at self.bank name) (texts_at self.bank formals.items) (term_at self.bank body) (map (measure_at self.bank) measures.now)) given.entry.logging) }
         ensures learnt { IfOk result (λ r. P.has_learnt prover.new r.session.history) }
     {
@@ -111,6 +111,7 @@ impl Session {
         ensures after { IfOk result (λ r. history_of r.session ≡ history_of self ++ logic.Defines (measured_definition (text_at self.bank name) (texts_at self.bank formals.items) (term_at self.bank body)
             (term_at self.bank kept.measure)) ∷ []) }
         ensures stands_after { IfOk result (λ r. SessionStands r.session) }
+        ensures bank { IfOk result (λ r. r.session.bank ≡ self.bank) }
         ensures answer { IfOk result (λ r. answer_of r.answer ≡ model.AcceptedBy kept.place (printed (term_at self.bank kept.measure))) }
         ensures block { IfOk result (λ r. r.block ≡ block) }
         ensures learnt { IfOk result (λ r. P.has_learnt prover.new r.session.history) }

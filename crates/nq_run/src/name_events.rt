@@ -64,7 +64,7 @@ impl Session {
         requires name { IsNamed self.bank name }
         requires formals { All (IsNamed self.bank) formals.now }
         requires spelled { IsSpelledFunction (text_at self.bank name) (texts_at self.bank formals.now) }
-        ensures taken { IfOk result (TakesEvent given.entry.steps (history_of self) (tree given.entry.form.now)
+        ensures taken { IfOk result (TakesEvent given.entry.steps self given.entry.mark (tree given.entry.form.now)
             (model.Dcl (text_at self.bank name) (texts_at self.bank formals.now)) given.entry.logging) }
         ensures learnt { IfOk result (λ r. P.has_learnt prover.new r.session.history) }
     {
@@ -124,7 +124,7 @@ impl Session {
         requires name { IsNamed self.bank name }
         requires old { IsNamed self.bank old }
         requires spelled { is_symbol (text_at self.bank name) ≡ true }
-        ensures taken { IfOk result (TakesEvent given.entry.steps (history_of self) (tree given.entry.form.now)
+        ensures taken { IfOk result (TakesEvent given.entry.steps self given.entry.mark (tree given.entry.form.now)
             (model.Toggle (text_at self.bank name) (text_at self.bank old) disabled) given.entry.logging) }
         ensures learnt { IfOk result (λ r. P.has_learnt prover.new r.session.history) }
     {

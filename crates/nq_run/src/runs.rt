@@ -283,8 +283,8 @@ fn turn<O: Sink, L: Sink, P: Prover>(
     requires narrow { IsNarrow (2 ^ 25) (tree form.now) }
     requires number { progress.counts.forms + 1 < 2 ^ 64 }
     requires within { progress.log.count < 2 ^ 62 }
-    ensures turned { IfOk result (λ turn. Turned limit progress.log.logging (tree form.now) (history_of session)
-        (history_of turn.session) (totals_in progress.counts) (totals_in turn.progress.counts) progress.log.count turn.progress.log.count
+    ensures turned { IfOk result (λ turn. Turned limit progress.log.logging (tree form.now) session
+        turn.session (totals_in progress.counts) (totals_in turn.progress.counts) progress.log.count turn.progress.log.count
         (held_in (O.written comment.old) (L.written log.old)) (held_in (O.written comment.new) (L.written log.new))) }
     ensures stands { IfOk result (λ turn. SessionStands turn.session) }
     ensures learnt { IfOk result (λ turn. P.has_learnt prover.new turn.session.history) }
@@ -338,7 +338,7 @@ fn take_form<P: Prover>(
     requires learnt { P.has_learnt prover.old session.history }
     requires spelled { IsSpelled (tree form.now) }
     requires narrow { IsNarrow (2 ^ 25) (tree form.now) }
-    ensures takes { IfOk result (Takes limit (history_of session) (tree form.now) logging) }
+    ensures takes { IfOk result (Takes limit session (tree form.now) logging) }
     ensures learnt { IfOk result (λ r. P.has_learnt prover.new r.session.history) }
     ensures small { IfOk result (λ r. length r.block ≤ 2 ^ 40) }
     ensures only { OnErr result (result ≡ Err RunFault.Memory) }

@@ -86,7 +86,7 @@ impl Session {
         requires learnt { P.has_learnt prover.old self.history }
         requires spelled { IsSpelled (tree form.now) }
         requires narrow { IsNarrow (2 ^ 25) (tree form.now) }
-        ensures takes { IfOk result (Takes steps (history_of self) (tree form.now) logging) }
+        ensures takes { IfOk result (Takes steps self (tree form.now) logging) }
         ensures learnt { IfOk result (λ r. P.has_learnt prover.new r.session.history) }
     {
         events_are_spelled();
@@ -124,7 +124,7 @@ impl Session {
         requires mark { IsMarkBefore self.bank self.history given.mark }
         requires event { EventStands self.bank event }
         requires spelled { IsSpelledEvent (history_of self) (event_read self.bank event) }
-        ensures takes { IfOk result (TakesEvent given.entry.steps (history_of self) (tree given.entry.form.now) (event_read self.bank event) given.entry.logging) }
+        ensures takes { IfOk result (TakesEvent given.entry.steps self given.entry.mark (tree given.entry.form.now) (event_read self.bank event) given.entry.logging) }
         ensures learnt { IfOk result (λ r. P.has_learnt prover.new r.session.history) }
     {
         match event {
@@ -171,7 +171,7 @@ impl Session {
     pub(crate) fn untaken(self, alloc: Global, mark: Mark, answer: FormAnswer) -> Taken
         requires stands { SessionStands self }
         requires mark { IsMarkBefore self.bank self.history mark }
-        ensures { IsUntaken self (answer_of answer) result }
+        ensures { IsUntaken self mark (answer_of answer) result }
     {
         let Session { mut bank, history } = self;
         bank.release(mark);

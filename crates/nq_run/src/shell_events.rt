@@ -94,7 +94,7 @@ impl Session {
         requires mark { IsMarkBefore self.bank self.history given.mark }
         requires shell { ShellStands self.bank shell }
         requires spelled { IsSpelledShell (shell_at self.bank shell) }
-        ensures taken { IfOk result (TakesEvent given.entry.steps (history_of self) (tree given.entry.form.now) (model.AddShell (shell_at self.bank shell)) given.entry.logging) }
+        ensures taken { IfOk result (TakesEvent given.entry.steps self given.entry.mark (tree given.entry.form.now) (model.AddShell (shell_at self.bank shell)) given.entry.logging) }
         ensures learnt { IfOk result (λ r. P.has_learnt prover.new r.session.history) }
     {
         match self.shell_answer(alloc, &shell)? {
@@ -117,7 +117,7 @@ impl Session {
         requires shell { ShellStands self.bank shell }
         requires spelled { IsSpelledShell (shell_at self.bank shell) }
         requires lawful { own_refusal (history_of self) (model.AddShell (shell_at self.bank shell)) ≡ None }
-        ensures taken { IfOk result (TakesEvent given.entry.steps (history_of self) (tree given.entry.form.now) (model.AddShell (shell_at self.bank shell)) given.entry.logging) }
+        ensures taken { IfOk result (TakesEvent given.entry.steps self given.entry.mark (tree given.entry.form.now) (model.AddShell (shell_at self.bank shell)) given.entry.logging) }
         ensures learnt { IfOk result (λ r. P.has_learnt prover.new r.session.history) }
     {
         events_are_spelled();

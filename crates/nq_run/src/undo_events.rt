@@ -5,7 +5,9 @@ ghost use Rattle.nq_sexp.specs.Tree.{tree};
 ghost use Rattle.nq_logic.specs.Ground.{ground_history};
 ghost use Rattle.nq_logic.specs.Names.{before_event, event_in, looked_up};
 ghost use Rattle.nq_bank.specs.Content.{IsNamed, text_at};
+ghost use Rattle.nq_bank.specs.declared.node.Mark.{Mark as MarkOfBank};
 ghost use Rattle.nq_events.specs.Events as model;
+ghost use Rattle.nq_run.specs.Banks.{IsGivenBack};
 ghost use Rattle.nq_run.specs.HistoryView.{history_of, SessionStands};
 ghost use Rattle.nq_run.specs.Sessions.{IsMarkBefore, TakesEvent};
 
@@ -29,7 +31,7 @@ impl Session {
     ) -> Result<Taken, AllocError>
         requires stands { SessionStands self }
         requires learnt { P.has_learnt prover.old self.history }
-        ensures taken { (limit : ℕ) (form : Form) → IfOk result (TakesEvent limit (history_of self) form model.BootStrap logging) }
+        ensures taken { (limit : ℕ) (mark : MarkOfBank) (form : Form) → IfOk result (TakesEvent limit self mark form model.BootStrap logging) }
         ensures learnt { IfOk result (λ r. P.has_learnt prover.new r.session.history) }
     {
         let block = self.block(alloc, logging, &Closing::BootStrap)?;
@@ -59,7 +61,7 @@ impl Session {
         requires learnt { P.has_learnt prover.old self.history }
         requires mark { IsMarkBefore self.bank self.history given.mark }
         requires name { IsNamed self.bank name }
-        ensures taken { IfOk result (TakesEvent given.entry.steps (history_of self) (tree given.entry.form.now) (model.Undo (text_at self.bank name)) given.entry.logging) }
+        ensures taken { IfOk result (TakesEvent given.entry.steps self given.entry.mark (tree given.entry.form.now) (model.Undo (text_at self.bank name)) given.entry.logging) }
         ensures learnt { IfOk result (λ r. P.has_learnt prover.new r.session.history) }
     {
         self.bank.is_sound();
@@ -93,6 +95,7 @@ impl Session {
         requires past { is_some (event_in (text_at self.bank name) ground_history) ≡ false }
         ensures before { history_of result ≡ before_event (text_at self.bank name) (history_of self) }
         ensures stands_after { SessionStands result }
+        ensures bank { IsGivenBack self result }
         ensures learnt_after { P.has_learnt prover.new result.history }
     {
         events_are_spelled();

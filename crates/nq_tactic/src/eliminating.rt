@@ -8,7 +8,7 @@ ghost use Rattle.nq_tactic.specs.Ways.{IsWay, nexts_of};
 
 use crate::way::Way;
 use nq_bank::TermId;
-use nq_elim::{Elimination, eliminate, equate_numbers};
+use nq_elim::{Elimination, eliminate, eliminate_difference, equate_numbers};
 use nq_history::{Hints, History};
 use nq_kernel::{Stop, Work, ready_histories};
 use nq_search::{Led, Plan};
@@ -32,7 +32,27 @@ fn eliminated(
     }
 }
 
-/// Leads a goal on by replacing destructors by new variables, where it has some.
+/// Leads a goal on by replacing a difference of numbers by a new variable, where it has one that is known not to be cut off at 0.
+fn lead_differing(
+    work: &mut Work,
+    history: &History,
+    hints: &Hints,
+    goal: &[TermId],
+    plan: Plan,
+) -> Result<Option<Led<Way>>, Stop>
+    requires can { CanSearch history.now hints.now work.old }
+    requires goal { IsGoalIn history.now work.old goal.now }
+    ensures led { IfOk result (λ found. IfSome found (IsLed nexts_of IsWay history.now work.new goal.now)) }
+    ensures grows { WorkGrows history.now work.old work.new }
+    ensures out { result ≡ Err Stop.OutOfSteps → work.new.counter.used ≡ work.new.counter.limit }
+{
+    match eliminate_difference(work, history, hints, goal)? {
+        Some(elimination) => Ok(Some(eliminated(work, history, goal, elimination, plan))),
+        None => Ok(None),
+    }
+}
+
+/// Leads a goal on by replacing destructors by new variables, where it has some, or else a difference.
 fn lead_parted(
     work: &mut Work,
     history: &History,
@@ -46,9 +66,10 @@ fn lead_parted(
     ensures grows { WorkGrows history.now work.old work.new }
     ensures out { result ≡ Err Stop.OutOfSteps → work.new.counter.used ≡ work.new.counter.limit }
 {
+    ready_histories();
     match eliminate(work, history, hints, goal, 0)? {
         Some(elimination) => Ok(Some(eliminated(work, history, goal, elimination, plan))),
-        None => Ok(None),
+        None => lead_differing(work, history, hints, goal, plan),
     }
 }
 

@@ -12,7 +12,7 @@ ghost use Rattle.nq_tactic.specs.Ways.{IsWay, nexts_of};
 
 use crate::arithmetic::number_line;
 use crate::refuting::is_one_false;
-use crate::simplifying::simplified;
+use crate::simplifying::{parted, simplified};
 use crate::tested::tested_line;
 use crate::trivial::truth_line;
 use crate::way::Way;
@@ -39,6 +39,27 @@ pub fn lead_simplified(
     ensures out { result ≡ Err Stop.OutOfSteps → work.new.counter.used ≡ work.new.counter.limit }
 {
     let way = simplified(work, history, hints, goal)?;
+    Ok(Led {
+        way: Way::Simplified(way),
+        plan,
+    })
+}
+
+/// Leads a goal on by taking it apart, and with this plan.
+pub fn lead_apart(
+    work: &mut Work,
+    history: &History,
+    hints: &Hints,
+    goal: &[TermId],
+    plan: Plan,
+) -> Result<Led<Way>, Stop>
+    requires can { CanSearch history.now hints.now work.old }
+    requires goal { IsGoalIn history.now work.old goal.now }
+    ensures led { IfOk result (IsLed nexts_of IsWay history.now work.new goal.now) }
+    ensures grows { WorkGrows history.now work.old work.new }
+    ensures out { result ≡ Err Stop.OutOfSteps → work.new.counter.used ≡ work.new.counter.limit }
+{
+    let way = parted(work, history, hints, goal)?;
     Ok(Led {
         way: Way::Simplified(way),
         plan,

@@ -26,6 +26,7 @@ mod inducting;
 mod leading;
 
 // what is tried, in which order
+mod lightly;
 mod order;
 mod substitutions;
 

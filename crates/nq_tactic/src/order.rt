@@ -15,6 +15,8 @@ pub const TURNS: u32 = 10;
 /// What may be tried of a goal.
 #[derive(Clone, Copy, Debug, PartialEq, Eq)]
 pub enum Choice {
+    /// The goal is taken apart.
+    Part,
     /// A simplification.
     Simplify,
     /// Linear arithmetic on the goal's literals.
@@ -49,11 +51,21 @@ fn choice_of_next(turn: u32) -> Choice {
     }
 }
 
+/// The first step with a lemma. Beside instances it is taken apart first, so that of each instance what holds stands alone before terms
+/// are rewritten.
+fn first_step(hints: &Hints) -> Choice {
+    if hints.instances.as_slice().is_empty() {
+        Choice::Simplify
+    } else {
+        Choice::Part
+    }
+}
+
 /// What is tried of a lemma at a turn.
 fn choice_of_lemma(hints: &Hints, turn: u32) -> Choice {
     match turn {
         0 => hinted(hints),
-        1 => Choice::Simplify,
+        1 => first_step(hints),
         2 => Choice::Induct(0),
         3 => Choice::Induct(1),
         _ => Choice::Nothing,

@@ -5,6 +5,7 @@ ghost use Rattle.nq_kernel.specs.Growing.{WorkGrows};
 ghost use Rattle.nq_search.specs.Goals.{CanSearch, IsGoalIn};
 ghost use Rattle.nq_simplify.specs.Simplified.{IsSimplified};
 
+use crate::lightly::light_hints;
 use nq_bank::TermId;
 use nq_history::{Hints, History};
 use nq_kernel::{Stop, Work};
@@ -42,5 +43,29 @@ pub fn simplified(
     let basis = make_basis(work, history)?;
     let until = until_of(work);
     let mut rewriter = LiteralRewriter { hints, until };
+    simplify_goal(work, history, &basis, &mut rewriter, goal, ROUNDS)
+}
+
+/// Takes a goal apart: it is simplified without rules, and no recursive function is opened.
+pub fn parted(
+    work: &mut Work,
+    history: &History,
+    hints: &Hints,
+    goal: &[TermId],
+) -> Result<Simplified, Stop>
+    requires can { CanSearch history.now hints.now work.old }
+    requires goal { IsGoalIn history.now work.old goal.now }
+    ensures simplified { IfOk result (IsSimplified history.now work.new (terms_at work.old.bank goal.now)) }
+    ensures grows { WorkGrows history.now work.old work.new }
+    ensures out { result ≡ Err Stop.OutOfSteps → work.new.counter.used ≡ work.new.counter.limit }
+{
+    own_terms();
+    let light = light_hints(work, history, hints)?;
+    let basis = make_basis(work, history)?;
+    let until = until_of(work);
+    let mut rewriter = LiteralRewriter {
+        hints: &light,
+        until,
+    };
     simplify_goal(work, history, &basis, &mut rewriter, goal, ROUNDS)
 }

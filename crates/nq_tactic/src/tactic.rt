@@ -8,7 +8,7 @@ ghost use Rattle.nq_tactic.specs.Ways.{IsWay, nexts_of};
 use crate::closing::close_way;
 use crate::eliminating::lead_eliminated;
 use crate::inducting::{lead_hinted, lead_inducted};
-use crate::leading::{lead_moved, lead_refuted, lead_simplified};
+use crate::leading::{lead_apart, lead_moved, lead_refuted, lead_simplified};
 use crate::order::{Choice, choice_of, plan_after_induction, plan_after_move, share};
 use crate::substitutions::is_substituted;
 use crate::way::{Way, nexts_of};
@@ -43,6 +43,34 @@ impl Waterfall {
             until,
             ..plan
         }
+    }
+
+    /// The plan of the goals that another is taken apart to.
+    fn plan_after_parting(&self, work: &Work, plan: Plan) -> Plan {
+        Plan {
+            simplified: false,
+            ..self.plan_after_simplification(work, plan)
+        }
+    }
+
+    /// Takes a goal apart.
+    fn part(
+        &self,
+        work: &mut Work,
+        history: &History,
+        hints: &Hints,
+        plan: Plan,
+        goal: &[TermId],
+    ) -> Result<Option<Led<Way>>, Stop>
+        requires can { CanSearch history.now hints.now work.old }
+        requires goal { IsGoalIn history.now work.old goal.now }
+        ensures led { IfOk result (λ found. IfSome found (IsLed nexts_of IsWay history.now work.new goal.now)) }
+        ensures grows { WorkGrows history.now work.old work.new }
+        ensures out { result ≡ Err Stop.OutOfSteps → work.new.counter.used ≡ work.new.counter.limit }
+    {
+        let next = self.plan_after_parting(work, plan);
+        let led = lead_apart(work, history, hints, goal, next)?;
+        Ok(Some(led))
     }
 
     /// Simplifies a goal.
@@ -82,6 +110,7 @@ impl Waterfall {
         ensures out { result ≡ Err Stop.OutOfSteps → work.new.counter.used ≡ work.new.counter.limit }
     {
         match choice {
+            Choice::Part => self.part(work, history, hints, plan, goal),
             Choice::Simplify => self.simplify(work, history, hints, plan, goal),
             Choice::Refute => lead_refuted(work, history, hints, goal, plan),
             Choice::Hint => {
@@ -107,6 +136,7 @@ impl Waterfall {
     /// Is a choice worth nothing for this goal?
     fn is_idle(&self, plan: Plan, choice: Choice) -> bool {
         match choice {
+            Choice::Part => false,
             Choice::Simplify => false,
             Choice::Refute => false,
             Choice::Hint => plan.inductions == 0,
@@ -120,6 +150,7 @@ impl Waterfall {
 /// Does a choice come after SUBST?
 fn is_late(choice: Choice) -> bool {
     match choice {
+        Choice::Part => false,
         Choice::Simplify => false,
         Choice::Refute => false,
         Choice::Hint => false,

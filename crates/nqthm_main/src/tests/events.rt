@@ -161,16 +161,17 @@ fn an_undo_gives_names_back(rt: HostRuntime) -> Result<(), Fail> {
 #[test]
 fn an_instance_of_an_axiom_or_lemma_is_proved(rt: HostRuntime) -> Result<(), Fail> {
     let axioms =
-        b"(DCL G (X Y))(ADD-AXIOM PAIRS NIL (IMPLIES (LISTP X) (EQUAL (CONS (CAR X) (CDR X)) X)))(ADD-AXIOM LESS NIL (EQUAL (DIFFERENCE (ADD1 X) Y) (G X Y)))(ADD-AXIOM SAME NIL (IMPLIES P P))".as_slice();
+        b"(DCL G (X Y))(ADD-AXIOM PAIRS NIL (IMPLIES (LISTP X) (EQUAL (CONS (CAR X) (CDR X)) X)))(ADD-AXIOM LESS NIL (EQUAL (DIFFERENCE (ADD1 X) Y) (G X Y)))(ADD-AXIOM SAME NIL (IMPLIES P P))(ADD-AXIOM FIRST NIL (G (CONS X Y) X))".as_slice();
     for (lemma, answer) in [
         // each variable has one term in its place
         (
             b"(IMPLIES (LISTP (CDR Y)) (EQUAL (CONS (CADR Y) (CDDR Y)) (CDR Y)))".as_slice(),
             b"By INST.\n   Proved.".as_slice(),
         ),
+        (b"(G (CONS 2 Z) 2)", b"By INST.\n   Proved."),
         (
-            b"(IMPLIES (LISTP Y) (EQUAL (CONS (CAR Z) (CDR Y)) Y))",
-            b"Refused 9 NotYet PROVE-LEMMA.",
+            b"(G (CONS Y Z) Z)",
+            b"0. GOAL: (G (CONS Y Z) Z)\n   Failed, no induction.",
         ),
         (
             b"(IMPLIES (LISTP X) (EQUAL (CONS (CAR X) (CDR X)) X))",
@@ -192,7 +193,7 @@ fn an_instance_of_an_axiom_or_lemma_is_proved(rt: HostRuntime) -> Result<(), Fai
         let text = joined(rt.alloc(), &[axioms, b"(PROVE-LEMMA L NIL ", lemma, b")"])?;
         let report = joined(
             rt.alloc(),
-            &[b"5. PROVE-LEMMA L\n   ", answer, b"\nForms 5, "],
+            &[b"6. PROVE-LEMMA L\n   ", answer, b"\nForms 6, "],
         )?;
         let answered = answer_to(rt.alloc(), Given::run(text.as_slice()))?;
         assert!(rt; has_part(answered.out.as_slice(), report.as_slice()));
@@ -203,9 +204,9 @@ fn an_instance_of_an_axiom_or_lemma_is_proved(rt: HostRuntime) -> Result<(), Fai
 #[test]
 fn an_undone_axiom_proves_nothing_more(rt: HostRuntime) -> Result<(), Fail> {
     let text =
-        b"(DCL E (X))(ADD-AXIOM A NIL (E X))(PROVE-LEMMA L NIL (E (CAR Y)))(UNDO-BACK-THROUGH L)(PROVE-LEMMA M NIL (E 3))(UNDO-BACK-THROUGH A)(PROVE-LEMMA L NIL (E (CAR Y)))(PROVE-LEMMA M NIL (E Y))";
+        b"(DCL E (X))(ADD-AXIOM A NIL (E X))(PROVE-LEMMA L NIL (E (CONS Y Z)))(UNDO-BACK-THROUGH L)(PROVE-LEMMA M NIL (E 3))(UNDO-BACK-THROUGH A)(PROVE-LEMMA L NIL (E (CONS Y Z)))(PROVE-LEMMA M NIL (E Y))";
     let want =
-        b"1. DCL E\n   Accepted.\n2. ADD-AXIOM A\n   Accepted.\n3. PROVE-LEMMA L\n   By INST.\n   Proved.\n4. UNDO-BACK-THROUGH L\n   Undone 1.\n5. PROVE-LEMMA M\n   By INST.\n   Proved.\n6. UNDO-BACK-THROUGH A\n   Undone 2.\n7. PROVE-LEMMA L\n   Refused 9 NotYet PROVE-LEMMA.\n8. PROVE-LEMMA M\n   0. GOAL: (E Y)\n   Failed, no induction.\nForms 8, accepted 6, refused 1, failed 1, skipped 0.\n".as_slice();
+        b"1. DCL E\n   Accepted.\n2. ADD-AXIOM A\n   Accepted.\n3. PROVE-LEMMA L\n   By INST.\n   Proved.\n4. UNDO-BACK-THROUGH L\n   Undone 1.\n5. PROVE-LEMMA M\n   By INST.\n   Proved.\n6. UNDO-BACK-THROUGH A\n   Undone 2.\n7. PROVE-LEMMA L\n   0. GOAL: (E (CONS Y Z))\n   Failed, no induction.\n8. PROVE-LEMMA M\n   0. GOAL: (E Y)\n   Failed, no induction.\nForms 8, accepted 6, refused 0, failed 2, skipped 0.\n".as_slice();
     let answered = answer_to(rt.alloc(), Given::run(text.as_slice()))?;
     assert_eq!(rt; answered.out.as_slice(), want);
     Ok(())

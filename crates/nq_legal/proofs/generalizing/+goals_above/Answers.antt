@@ -1,5 +1,4 @@
 use Rattle.std.proofs.Common.{◌≡◌, ◌-◌, ◌∙◌, List, length, take, drop, sym, subst}
-use Rattle.nq_bank.specs.declared.node.TermId.{TermId}
 use Rattle.nq_goals.specs.Paths.{goals_above}
 use Rattle.nq_waterfall.specs.declared.trail.Ancestor.{Ancestor}
 use Rattle.nq_waterfall.specs.Ready.{IsPathIn}

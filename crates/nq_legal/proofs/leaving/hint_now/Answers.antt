@@ -1,4 +1,4 @@
-use Rattle.nq_legal.proofs.LeavingLemmas.{unhinted, below_induction, first_hinted}
+use Rattle.nq_legal.proofs.LeavingLemmas.{unhinted}
 use Rattle.nq_legal.proofs.leaving.hint_now.Goals as goal
 
 pub returns-in-None : goal.returns-in-None

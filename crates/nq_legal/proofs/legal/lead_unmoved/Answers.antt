@@ -5,6 +5,9 @@ use Rattle.nq_legal.proofs.legal.lead_unmoved.Goals as goal
 pub is_stuck-requires-clause-goal : goal.is_stuck-requires-clause-goal
 is_stuck-requires-clause-goal g c = goal_stands c.args.history.now c.args.work.now c.args.goal.now c.requires.goal
 
+pub is_stuck-requires-clause-normal : goal.is_stuck-requires-clause-normal
+is_stuck-requires-clause-normal g c = c.requires.form.0
+
 pub is_stuck-requires-clause-not_false : goal.is_stuck-requires-clause-not_false
 is_stuck-requires-clause-not_false g c = c.requires.form.1
 

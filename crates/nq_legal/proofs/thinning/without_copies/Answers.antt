@@ -1,5 +1,5 @@
-use Rattle.std.proofs.Common.{[], ◌≡◌, refl, sym, ap, subst, ◌∙◌, map, take}
-use Rattle.std.specs.Prelude.{All, Some, slice_get, Vec}
+use Rattle.std.proofs.Common.{◌≡◌, sym, ap, subst, ◌∙◌}
+use Rattle.std.specs.Prelude.{All, Vec}
 use Rattle.std.specs.declared.alloc.Global.{Global}
 use Rattle.std.proofs.lemmas.List.Elements.{All-nil}
 use Rattle.nq_bank.specs.declared.node.TermId.{TermId}

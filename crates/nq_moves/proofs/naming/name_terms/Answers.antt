@@ -1,4 +1,4 @@
-use Rattle.std.proofs.Common.{◌∙◌, ◌-◌, ap, sym, subst, get_or, rules, arith}
+use Rattle.std.proofs.Common.{◌∙◌, ap, sym, subst, get_or, rules, arith}
 use Rattle.std.specs.Prelude.{All}
 use Rattle.std.proofs.lemmas.List.{take_all}
 use Rattle.nq_bank.specs.declared.node.TermId.{TermId}
@@ -7,11 +7,13 @@ use Rattle.nq_clause.specs.Substitution.{substitution_at}
 use Rattle.nq_proof.specs.Rules.{pair_terms}
 use Rattle.nq_kernel.specs.Over.{pair_names}
 use Rattle.nq_kernel.proofs.GrowingLemmas.{WorkGrows-refl, WorkGrows-trans}
-use Rattle.nq_goals.specs.NewVariables.{clause_variables, unused_from}
+use Rattle.nq_goals.specs.NewVariables.{clause_variables}
 use Rattle.nq_moves.specs.Naming.{IsNaming}
-use Rattle.nq_moves.proofs.SwappedLemmas.{goal_in_grown}
+use Rattle.nq_moves.proofs.ClosingLemmas.{all_stand}
+use Rattle.nq_moves.proofs.SwappedLemmas.{goal_in_grown, goal_same}
 use Rattle.nq_moves.proofs.NamingLemmas.{namings_more, namings_stand, no_namings}
 use Rattle.nq_moves.proofs.NumberingLemmas.{all_named, names_more, terms_more}
+use Rattle.nq_moves.proofs.UsedLemmas.{names_grown}
 use Rattle.nq_moves.proofs.naming.name_terms.Goals as goal
 
 pub loop-t-init : goal.loop-t-init
@@ -25,6 +27,21 @@ loop-t-init c =
       names = ap (λ ps. pair_names (substitution_at w.bank ps)) c.new-pairs.ensures.items;
       terms = ap (λ ps. pair_terms (substitution_at w.bank ps)) c.new-pairs.ensures.items;
     }
+
+pub names_in-requires : goal.names_in-requires
+names_in-requires c = all_stand c.args.history.now c.args.work.now c.args.literals.now c.requires.literals
+
+pub next_name-requires-clause-names : goal.next_name-requires-clause-names
+next_name-requires-clause-names c =
+    let h = c.args.history.now in
+    let old = c.args.work.now in
+    let mid = c.loop-t.work in
+    let literals = c.args.literals.now in
+    let grows = c.loop-t.invariant.grows in
+    names_grown old.bank mid.bank c.in_ok-names.names (terms_at old.bank literals) (terms_at mid.bank literals) grows.bank (goal_same h old mid c.requires.stands grows literals c.requires.literals) c.in_ok-names.ensures.names
+
+pub returns-in_err-names-clause-grows : goal.returns-in_err-names-clause-grows
+returns-in_err-names-clause-grows c = WorkGrows-refl c.args.history.now c.args.work.now c.requires.stands
 
 pub next_name-requires-clause-literals : goal.next_name-requires-clause-literals
 next_name-requires-clause-literals c = goal_in_grown c.args.history.now c.args.work.now c.loop-t.work c.requires.stands c.loop-t.invariant.grows c.args.literals.now c.requires.literals

@@ -1,4 +1,4 @@
-use Rattle.std.proofs.Common.{◌≡◌, ◌∙◌, ◌≤◌, ◌<◌, ◌+◌, ℕ, suc, true, ap, sym, subst, arith}
+use Rattle.std.proofs.Common.{◌∙◌, ap, sym, arith}
 use Rattle.nq_bank.specs.Content.{terms_at}
 use Rattle.nq_kernel.proofs.GrowingLemmas.{WorkGrows-refl, WorkGrows-trans}
 use Rattle.nq_goals.specs.NewVariables.{numbered}
@@ -6,6 +6,7 @@ use Rattle.nq_moves.specs.Naming.{occurs_in_one}
 use Rattle.nq_moves.specs.Numbering.{IsNewAt}
 use Rattle.nq_moves.proofs.NumberingLemmas.{none_as, one_more_used, some_is}
 use Rattle.nq_moves.proofs.SwappedLemmas.{goal_in_grown, goal_same}
+use Rattle.nq_moves.proofs.UsedLemmas.{names_grown}
 use Rattle.nq_moves.proofs.numbering.next_name.Goals as goal
 
 pub loop-number-init : goal.loop-number-init
@@ -13,6 +14,15 @@ loop-number-init c = record { grows = WorkGrows-refl c.args.history.now c.args.w
 
 pub new_name-requires-clause-literals : goal.new_name-requires-clause-literals
 new_name-requires-clause-literals c = goal_in_grown c.args.history.now c.args.work.now c.loop-number.work c.requires.stands c.loop-number.invariant.grows c.args.literals.now c.requires.literals
+
+pub new_name-requires-clause-names : goal.new_name-requires-clause-names
+new_name-requires-clause-names c =
+    let h = c.args.history.now in
+    let old = c.args.work.now in
+    let mid = c.loop-number.work in
+    let literals = c.args.literals.now in
+    let grows = c.loop-number.invariant.grows in
+    names_grown old.bank mid.bank c.args.names.now (terms_at old.bank literals) (terms_at mid.bank literals) grows.bank (goal_same h old mid c.requires.stands grows literals c.requires.literals) c.requires.names
 
 pub returns-in_err-name-clause-grows : goal.returns-in_err-name-clause-grows
 returns-in_err-name-clause-grows c = WorkGrows-trans c.args.history.now c.args.work.now c.loop-number.work c.new_name.new.work c.loop-number.invariant.grows c.new_name.ensures.grows

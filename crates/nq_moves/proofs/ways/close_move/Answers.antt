@@ -18,3 +18,6 @@ close_left-requires-clause-moved c = subst (λ k. WayOf k c.args.history.now c.a
 
 pub returns-in-Irr-clause-grows : goal.returns-in-Irr-clause-grows
 returns-in-Irr-clause-grows c = subst (WorkGrows c.args.history.now c.args.work.now) (sym c.close_left.ensures.same) (WorkGrows-refl c.args.history.now c.args.work.now c.requires.stands)
+
+pub close_eliminated-requires-clause-moved : goal.close_eliminated-requires-clause-moved
+close_eliminated-requires-clause-moved c = subst (λ k. WayOf k c.args.history.now c.args.work.now c.args.goal.now c.args.moved.now) c.in-Elim.is c.requires.way

@@ -124,7 +124,7 @@ loop-form-preserved g c =
       (
         push before.0 form,
         so_far-next left start _ _ _ _ before.0 form before.1 found,
-        Ran-more c.args.limit c.args.logging before.0 form _ _ _ _ _ _ _ _ _ before.2 turned,
+        Ran-more c.args.limit c.args.logging before.0 form c.loop-form.session later.session _ _ _ _ _ _ _ before.2 turned,
       ),
       c.in-Ok-Some.ensures.live,
       omega (arith, one, longer, c.loop-form.invariant.2),

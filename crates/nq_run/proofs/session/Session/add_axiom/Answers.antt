@@ -54,7 +54,7 @@ returns-in-Some-clause-taken g c =
     let t = term_at bank c.args.term in
     let classes = map class_of c.args.classes.items in
     let some = told_some h name c.as_slice.result.now c.args.classes.items t _ c.in-Some.answer c.as_slice.ensures.value c.in_ok-answer.ensures c.in-Some.is in
-    hindered c.args.given.steps c.args.self form (model.AddAxiom name classes t) c.args.given.logging (answer_of c.in-Some.answer) c.untaken.result c.untaken.ensures (some ∙ sym (ap refused (axiom_is h name classes t)))
+    hindered c.args.given.steps c.args.self c.args.given.mark form (model.AddAxiom name classes t) c.args.given.logging (answer_of c.in-Some.answer) c.untaken.result c.untaken.ensures (some ∙ sym (ap refused (axiom_is h name classes t)))
 
 pub returns-in_ok-block-in-None-clause-taken : goal.returns-in_ok-block-in-None-clause-taken
 returns-in_ok-block-in-None-clause-taken g c =
@@ -66,5 +66,5 @@ returns-in_ok-block-in-None-clause-taken g c =
     let classes = map class_of c.args.classes.items in
     let none = told_none h name c.as_slice.result.now c.args.classes.items t _ c.as_slice.ensures.value c.in_ok-answer.ensures c.in-None.is in
     let entry : Entry = record { name = c.args.name; kind = kind.Axiom c.args.classes c.args.term; mark = c.args.given.mark } in
-    axiom_taken_on c.args.given.steps c.args.self form entry name classes t c.args.given.logging c.in_ok-block-in-None.block c.accepted.result none refl
+    axiom_taken_on c.args.given.steps c.args.self c.args.given.mark form entry name classes t c.args.given.logging c.in_ok-block-in-None.block c.accepted.result none refl
     c.accepted.ensures.added c.accepted.ensures.answer c.accepted.ensures.block c.in_ok-block-in-None.ensures

@@ -16,5 +16,5 @@ with_shell-requires-clause-lawful g c =
 
 pub returns-in-Some-clause-taken : goal.returns-in-Some-clause-taken
 returns-in-Some-clause-taken g c =
-    hindered c.args.given.steps c.args.self (tree c.args.given.form.now) (model.AddShell (shell_at c.args.self.bank c.args.shell)) c.args.given.logging (answer_of c.in-Some.answer) c.untaken.result c.untaken.ensures
+    hindered c.args.given.steps c.args.self c.args.given.mark (tree c.args.given.form.now) (model.AddShell (shell_at c.args.self.bank c.args.shell)) c.args.given.logging (answer_of c.in-Some.answer) c.untaken.result c.untaken.ensures
     (sym (ap (option_map answer_of) c.in-Some.is) ∙ c.in_ok-answer.ensures)

@@ -19,7 +19,7 @@ use Rattle.nq_run.proofs.session.Session.declare.Goals as goal
 pub returns-in-Some-clause-taken : goal.returns-in-Some-clause-taken
 returns-in-Some-clause-taken g c =
     let bank = c.args.self.bank in
-    hindered c.args.given.steps c.args.self (tree c.args.given.form.now) (model.Dcl (text_at bank c.args.name) (texts_at bank c.args.formals.now)) c.args.given.logging (answer_of c.in-Some.answer) c.untaken.result
+    hindered c.args.given.steps c.args.self c.args.given.mark (tree c.args.given.form.now) (model.Dcl (text_at bank c.args.name) (texts_at bank c.args.formals.now)) c.args.given.logging (answer_of c.in-Some.answer) c.untaken.result
     c.untaken.ensures (some_told c.in_ok-answer.field-0 c.in-Some.answer _ c.in_ok-answer.ensures c.in-Some.is)
 
 pub block-requires-clause-closing : goal.block-requires-clause-closing
@@ -48,7 +48,7 @@ returns-clause-taken g c =
     let name = text_at bank c.args.name in
     let arity : ℕ = length c.args.formals.now in
     let many = length-map c.args.formals.now (text_at bank) in
-    accepted c.args.given.steps c.args.self (tree c.args.given.form.now) (model.Dcl name (texts_at bank c.args.formals.now)) c.args.given.logging
+    accepted c.args.given.steps c.args.self c.args.given.mark (tree c.args.given.form.now) (model.Dcl name (texts_at bank c.args.formals.now)) tt c.args.given.logging
     (record { name = c.args.name; kind = kind.Dcl arity; mark = c.args.given.mark }) (claim_at bank (closing.Dcl c.args.name arity)) c.in_ok-block.block
     (none_told c.in_ok-answer.field-0 _ c.in_ok-answer.ensures c.in_default.is) refl (ap (λ (n : ℕ). h ++ Declaration name n ∷ []) many) (ap (λ (n : ℕ). Adds (Declaration name n) ∷ []) many)
     c.in_ok-block.ensures c.accepted.result c.accepted.ensures.added c.accepted.ensures.answer c.accepted.ensures.block

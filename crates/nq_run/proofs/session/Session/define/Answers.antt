@@ -23,7 +23,7 @@ returns-in-Some-clause-taken g c =
     let name = text_at bank c.args.name in
     let body = term_at bank c.args.body in
     let measures = map (measure_at bank) c.args.measures.now in
-    hindered c.args.given.steps c.args.self form (model.Defn name (texts_at bank c.args.formals.items) body measures) c.args.given.logging (answer_of c.in-Some.answer) c.untaken.result c.untaken.ensures
+    hindered c.args.given.steps c.args.self c.args.given.mark form (model.Defn name (texts_at bank c.args.formals.items) body measures) c.args.given.logging (answer_of c.in-Some.answer) c.untaken.result c.untaken.ensures
     (defn_hindered (history_of c.args.self) bank name c.as_slice.result.now c.args.formals.items body measures c.as_slice.ensures.value c.in_ok-answer.field-0 c.in_ok-answer.ensures
     c.in-Some.answer c.in-Some.is)
 
@@ -57,7 +57,7 @@ returns-clause-taken g c =
     let name = text_at bank c.args.name in
     let body = term_at bank c.args.body in
     let measures = map (measure_at bank) c.args.measures.now in
-    accepted c.args.given.steps c.args.self form (model.Defn name (texts_at bank c.args.formals.items) body measures) c.args.given.logging
+    accepted c.args.given.steps c.args.self c.args.given.mark form (model.Defn name (texts_at bank c.args.formals.items) body measures) tt c.args.given.logging
     (record { name = c.args.name; kind = kind.Defn c.args.formals c.args.body None; mark = c.args.given.mark }) (defined_at bank c.args.name c.args.formals.items c.args.body) c.in_ok-block.block
     (defn_taken h bank name c.as_slice.result.now c.args.formals.items body measures c.as_slice.ensures.value c.in_ok-answer.field-0 c.in_ok-answer.ensures c.in_default.is)
     (defn_outcome h name (texts_at bank c.args.formals.items) body measures (sym c.in_ok-again.ensures ∙ c.if-again.false)) refl refl

@@ -107,7 +107,7 @@ returns-in-None-clause-taken g c =
     let none = kept_none grown old.history c.args.name c.args.formals.items c.args.body tried c.in_ok-sought.sought.kept c.in-None.is of.kept in
     let all = none_told c.in_ok-sought.sought.kept _ c.in-None.is of.told in
     left c.args.self c.tried_measures.new.bank c.args.name c.args.formals.items c.args.body c.args.measures.now c.in_ok-tried.tried.items c.requires.stands c.tried_measures.ensures.grows
-    c.requires.event c.requires.spelled c.requires.free c.requires.recursive c.in_ok-sought.sought.bank c.in_ok-sought.ensures.sought.same c.args.given.steps form c.args.given.logging (trials_of c.in_ok-sought.sought.trials.items) c.untaken.result told none all c.untaken.ensures
+    c.requires.event c.requires.spelled c.requires.free c.requires.recursive c.in_ok-sought.sought.bank c.in_ok-sought.ensures.sought.same c.args.given.steps c.args.given.mark form c.args.given.logging (trials_of c.in_ok-sought.sought.trials.items) c.untaken.result c.requires.mark told none all c.untaken.ensures
 
 pub returns-in-None-clause-learnt : goal.returns-in-None-clause-learnt
 returns-in-None-clause-learnt g c = subst (g.P.Prover.has_learnt c.try_recursion.new.prover) (sym c.untaken.ensures.entries) c.in_ok-sought.ensures.learnt
@@ -123,5 +123,5 @@ returns-in-Some-clause-taken g c =
     let told = subst (λ (xs : List Sym). terms_at grown tried ≡ tried_measures (texts_at old.bank xs) (map (measure_at old.bank) c.args.measures.now)) c.as_slice.ensures.value c.in_ok-tried.ensures.terms in
     let written = subst (λ (o : Option Kept). c.args.given.logging ≡ true → AreBlocks (events_at grown old.history) (kept_claims grown c.args.name c.args.formals.items c.args.body o) c.in_ok-sought.sought.block) c.in-Some.is of.written in
     taken_on c.args.self c.tried_measures.new.bank c.args.name c.args.formals.items c.args.body c.args.measures.now c.in_ok-tried.tried.items c.requires.stands c.tried_measures.ensures.grows
-    c.requires.event c.requires.spelled c.requires.free c.requires.recursive c.in_ok-sought.sought.bank c.in_ok-sought.ensures.sought.same c.args.given.steps (tree c.args.given.form.now) c.args.given.logging c.in-Some.kept c.in_ok-sought.sought.block c.measured.result told kept written
-    c.measured.ensures.after c.measured.ensures.stands_after c.measured.ensures.answer c.measured.ensures.block
+    c.requires.event c.requires.spelled c.requires.free c.requires.recursive c.in_ok-sought.sought.bank c.in_ok-sought.ensures.sought.same c.args.given.steps c.args.given.mark (tree c.args.given.form.now) c.args.given.logging c.in-Some.kept c.in_ok-sought.sought.block c.measured.result c.tried_measures.ensures.names told kept written
+    c.measured.ensures.after c.measured.ensures.stands_after c.measured.ensures.bank c.measured.ensures.answer c.measured.ensures.block

@@ -29,6 +29,6 @@ returns c =
           c.in_ok-given_up.ensures.told;
       not_taken = never_taken form text failing;
       untaken =
-          subst (λ (a : Answer). IsUntaken old a c.untaken.result) c.in_ok-answer.ensures
-          (subst (λ (s : Session). IsUntaken s (answer_of c.in_ok-answer.answer) c.untaken.result) same c.untaken.ensures);
+          subst (λ (a : Answer). IsUntaken old c.args.given.mark a c.untaken.result) c.in_ok-answer.ensures
+          (subst (λ (s : Session). IsUntaken s c.args.given.mark (answer_of c.in_ok-answer.answer) c.untaken.result) same c.untaken.ensures);
     }

@@ -34,7 +34,7 @@ returns-in-Some-clause-taken g c =
     let classes = map class_of c.args.classes.items in
     let hints = hints_at bank c.args.lemma.hints.now in
     let some = told_some h name c.as_slice.result.now c.args.classes.items t _ c.in-Some.answer c.as_slice.ensures.value c.in_ok-answer.ensures c.in-Some.is in
-    hindered c.args.given.steps c.args.self form (model.ProveLemma name classes t hints) c.args.given.logging (answer_of c.in-Some.answer) c.untaken.result c.untaken.ensures (some ∙ sym (ap refused (lemma_is h name classes t hints)))
+    hindered c.args.given.steps c.args.self c.args.given.mark form (model.ProveLemma name classes t hints) c.args.given.logging (answer_of c.in-Some.answer) c.untaken.result c.untaken.ensures (some ∙ sym (ap refused (lemma_is h name classes t hints)))
 
 pub returns-in-Some-clause-learnt : goal.returns-in-Some-clause-learnt
 returns-in-Some-clause-learnt g c = subst (g.P.Prover.has_learnt c.args.prover.now) (sym c.untaken.ensures.entries) c.requires.learnt
@@ -49,4 +49,4 @@ returns-in-None-clause-taken g c =
     let classes = map class_of c.args.classes.items in
     let hints = hints_at bank c.args.lemma.hints.now in
     let none = told_none h name c.as_slice.result.now c.args.classes.items t _ c.as_slice.ensures.value c.in_ok-answer.ensures c.in-None.is in
-    IfOk-weaker c.try_formula.result (TriesLemma c.args.given.steps h form name classes t hints c.args.given.logging) _ (λ r tries. tried_lemma c.args.given.steps h form name classes t hints c.args.given.logging r none tries) c.try_formula.ensures.tries
+    IfOk-weaker c.try_formula.result (TriesLemma c.args.given.steps c.args.self c.args.given.mark form name classes t hints c.args.given.logging) _ (λ r tries. tried_lemma c.args.given.steps c.args.self c.args.given.mark form name classes t hints c.args.given.logging r none tries) c.try_formula.ensures.tries

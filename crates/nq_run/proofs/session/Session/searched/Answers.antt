@@ -80,8 +80,8 @@ returns-in-Some-clause-tries g c =
     let hints = hints_at bank c.args.lemma.hints.now in
     let old = c.args.self in
     let same = same_session old c.in_ok-judged.judged.bank c.in_ok-judged.ensures.bank in
-    failed c.args.given.steps old form name classes t hints c.in_ok-judged.judged c.args.found c.args.given.logging c.requires.other c.requires.found c.in_ok-judged.ensures.told c.failing-known.result c.is_proved-proved.result c.failing-known.ensures c.in-Some.cause c.untaken.result c.in-Some.is
-    (subst (λ (s : Session). IsUntaken s (answer_of (answers.Failed c.in_ok-judged.judged.text c.in_ok-judged.judged.steps c.in-Some.cause)) c.untaken.result) same c.untaken.ensures)
+    failed c.args.given.steps old c.args.given.mark form name classes t hints c.in_ok-judged.judged c.args.found c.args.given.logging c.requires.other c.requires.found c.in_ok-judged.ensures.told c.failing-known.result c.is_proved-proved.result c.failing-known.ensures c.in-Some.cause c.untaken.result c.in-Some.is
+    (subst (λ (s : Session). IsUntaken s c.args.given.mark (answer_of (answers.Failed c.in_ok-judged.judged.text c.in_ok-judged.judged.steps c.in-Some.cause)) c.untaken.result) same c.untaken.ensures)
 
 pub returns-in-Some-clause-learnt : goal.returns-in-Some-clause-learnt
 returns-in-Some-clause-learnt g c = subst (g.P.Prover.has_learnt c.args.prover.now) (sym c.untaken.ensures.entries) c.requires.learnt
@@ -100,10 +100,10 @@ returns-in_ok-traced-in-Moves-clause-tries g c =
     let trace =
     subst (λ (b : Content). ShowsTrace (events_at b old.history) (hints_at b c.args.lemma.hints.now) (first_goal (events_at b old.history) (hints_at b c.args.lemma.hints.now) (term_at b c.args.lemma.goal)) (steps_of c.in_ok-traced-in-Moves.traced.steps.items)) c.in_ok-judged.ensures.bank
     c.in_ok-traced-in-Moves.ensures.told in
-    moved c.args.given.steps old form name classes t hints c.in_ok-judged.judged c.args.found c.args.given.logging c.requires.other c.requires.found c.in_ok-judged.ensures.told c.failing-known.result c.is_proved-proved.result c.failing-known.ensures c.proved.result _ c.in_ok-traced-in-Moves.traced.steps c.args.block
+    moved c.args.given.steps old c.args.given.mark form name classes t hints c.in_ok-judged.judged c.args.found c.args.given.logging c.requires.other c.requires.found c.in_ok-judged.ensures.told c.failing-known.result c.is_proved-proved.result c.failing-known.ensures c.proved.result _ c.in_ok-traced-in-Moves.traced.steps c.args.block
     c.in_default.is c.in-Moves.is trace c.requires.written
     (subst (λ (b : Content). IfOk c.proved.result (λ r. history_of r.session ≡ events_at b old.history ++ logic.Lemma (text_at b c.args.lemma.name) classes (term_at b c.args.lemma.goal) ∷ [])) back c.proved.ensures.after)
-    c.proved.ensures.stands_after c.proved.ensures.answer c.proved.ensures.block
+    c.proved.ensures.stands_after (subst (λ (b : Content). IfOk c.proved.result (λ r. r.session.bank ≡ b)) back c.proved.ensures.bank) c.proved.ensures.answer c.proved.ensures.block
 
 pub returns-in-OutOfSteps-clause-tries : goal.returns-in-OutOfSteps-clause-tries
 returns-in-OutOfSteps-clause-tries g c =
@@ -116,8 +116,8 @@ returns-in-OutOfSteps-clause-tries g c =
     let hints = hints_at bank c.args.lemma.hints.now in
     let old = c.args.self in
     let same = same_session old c.in_ok-judged.judged.bank c.in_ok-judged.ensures.bank in
-    ran_out c.args.given.steps old form name classes t hints c.in_ok-judged.judged c.args.found c.args.given.logging c.requires.other c.requires.found c.in_ok-judged.ensures.told c.failing-known.result c.is_proved-proved.result c.failing-known.ensures c.untaken-in-OutOfSteps.result c.in_default.is c.in-OutOfSteps.is
-    (subst (λ (s : Session). IsUntaken s OutOfSteps c.untaken-in-OutOfSteps.result) same c.untaken-in-OutOfSteps.ensures)
+    ran_out c.args.given.steps old c.args.given.mark form name classes t hints c.in_ok-judged.judged c.args.found c.args.given.logging c.requires.other c.requires.found c.in_ok-judged.ensures.told c.failing-known.result c.is_proved-proved.result c.failing-known.ensures c.untaken-in-OutOfSteps.result c.in_default.is c.in-OutOfSteps.is
+    (subst (λ (s : Session). IsUntaken s c.args.given.mark OutOfSteps c.untaken-in-OutOfSteps.result) same c.untaken-in-OutOfSteps.ensures)
 
 pub returns-in-OutOfSteps-clause-learnt : goal.returns-in-OutOfSteps-clause-learnt
 returns-in-OutOfSteps-clause-learnt g c = subst (g.P.Prover.has_learnt c.args.prover.now) (sym c.untaken-in-OutOfSteps.ensures.entries) c.requires.learnt
@@ -138,10 +138,10 @@ returns-in-Unknown-clause-tries g c =
     let classes = map class_of c.args.classes.items in
     let hints = hints_at bank c.args.lemma.hints.now in
     let left =
-    subst (λ (b : Content). IfOk c.given_up.result (IsLeft c.args.given.steps (record { bank = b; history = old.history }) form (hints_at b c.args.lemma.hints.now) (term_at b c.args.lemma.goal))) c.in_ok-judged.ensures.bank
+    subst (λ (b : Content). IfOk c.given_up.result (IsLeft c.args.given.steps (record { bank = b; history = old.history }) c.args.given.mark form (hints_at b c.args.lemma.hints.now) (term_at b c.args.lemma.goal))) c.in_ok-judged.ensures.bank
     c.given_up.ensures in
-    IfOk-weaker c.given_up.result (IsLeft c.args.given.steps old form hints t) (TriesLemma c.args.given.steps (history_of old) form name classes t hints c.args.given.logging)
-    (λ r kept. lemma_left c.args.given.steps old form name classes t hints kept.answer c.args.given.logging r kept.not_taken kept.tried kept.untaken) left
+    IfOk-weaker c.given_up.result (IsLeft c.args.given.steps old c.args.given.mark form hints t) (TriesLemma c.args.given.steps old c.args.given.mark form name classes t hints c.args.given.logging)
+    (λ r kept. lemma_left c.args.given.steps old c.args.given.mark form name classes t hints kept.answer c.args.given.logging r kept.not_taken kept.tried kept.untaken) left
 
 pub returns-in-Unknown-clause-learnt : goal.returns-in-Unknown-clause-learnt
 returns-in-Unknown-clause-learnt g c =

@@ -1,7 +1,6 @@
 use Rattle.std.proofs.Common.{subst, sym}
 use Rattle.std.proofs.lemmas.Result.{IfOk-weaker}
 use Rattle.nq_sexp.specs.Tree.{tree}
-use Rattle.nq_history.specs.Events.{events_at}
 use Rattle.nq_event.specs.EventsAt.{event_at}
 use Rattle.nq_run.specs.Sessions.{TakesEvent}
 use Rattle.nq_run.specs.declared.session.Session.{Session}
@@ -35,15 +34,15 @@ returns-in-Ok-clause-takes g c =
     let bank = c.parse_event.new.bank in
     let form = tree c.args.form.now in
     let event = c.in-Ok.event in
-    IfOk-weaker c.take_event.result (TakesEvent c.args.steps (events_at bank c.args.self.history) form (event_at bank event) c.args.logging) _
-    (λ r taken. takes_form c.args.self bank form event c.args.logging c.requires.stands c.in-Ok.ensures.grows c.args.steps r c.in-Ok.ensures.event taken) c.take_event.ensures.takes
+    IfOk-weaker c.take_event.result (TakesEvent c.args.steps (record { bank = bank; history = c.args.self.history }) c.mark-mark.result form (event_at bank event) c.args.logging) _
+    (λ r taken. takes_form c.args.self bank form event c.args.logging c.requires.stands c.in-Ok.ensures.grows c.args.steps c.mark-mark.result r c.mark-mark.ensures c.in-Ok.ensures.event taken) c.take_event.ensures.takes
 
 pub returns-in_ok-answer-in-Err-clause-takes : goal.returns-in_ok-answer-in-Err-clause-takes
 returns-in_ok-answer-in-Err-clause-takes g c =
     let bank = c.parse_event.new.bank in
     let grown : Session = record { bank = bank; history = c.args.self.history } in
-    refused_form c.args.steps c.args.self grown (tree c.args.form.now) c.args.logging c.in-Err.fault c.in_ok-answer-in-Err.answer c.untaken.result (same_history c.args.self bank c.requires.stands c.in-Err.ensures.grows)
-    c.in-Err.ensures.refused c.in_ok-answer-in-Err.ensures c.untaken.ensures
+    refused_form c.args.steps c.args.self grown c.mark-mark.result (tree c.args.form.now) c.args.logging c.in-Err.fault c.in_ok-answer-in-Err.answer c.untaken.result (same_history c.args.self bank c.requires.stands c.in-Err.ensures.grows)
+    c.mark-mark.ensures c.in-Err.ensures.grows c.in-Err.ensures.refused c.in_ok-answer-in-Err.ensures c.untaken.ensures
 
 pub returns-in_ok-answer-in-Err-clause-learnt : goal.returns-in_ok-answer-in-Err-clause-learnt
 returns-in_ok-answer-in-Err-clause-learnt g c = subst (g.P.Prover.has_learnt c.args.prover.now) (sym c.untaken.ensures.entries) c.requires.learnt

@@ -15,7 +15,7 @@ use Rattle.nq_run.proofs.session.Session.toggle.Goals as goal
 pub returns-in-Some-clause-taken : goal.returns-in-Some-clause-taken
 returns-in-Some-clause-taken g c =
     let bank = c.args.self.bank in
-    hindered c.args.given.steps c.args.self (tree c.args.given.form.now) (model.Toggle (text_at bank c.args.name) (text_at bank c.args.old) c.args.disabled) c.args.given.logging (answer_of c.in-Some.answer) c.untaken.result
+    hindered c.args.given.steps c.args.self c.args.given.mark (tree c.args.given.form.now) (model.Toggle (text_at bank c.args.name) (text_at bank c.args.old) c.args.disabled) c.args.given.logging (answer_of c.in-Some.answer) c.untaken.result
     c.untaken.ensures (some_told c.in_ok-answer.field-0 c.in-Some.answer _ (c.in_ok-answer.ensures c.args.disabled) c.in-Some.is)
 
 pub block-requires-clause-closing : goal.block-requires-clause-closing
@@ -40,7 +40,7 @@ accepted-requires-clause-ready g c =
 pub returns-clause-taken : goal.returns-clause-taken
 returns-clause-taken g c =
     let bank = c.args.self.bank in
-    accepted c.args.given.steps c.args.self (tree c.args.given.form.now) (model.Toggle (text_at bank c.args.name) (text_at bank c.args.old) c.args.disabled) c.args.given.logging
+    accepted c.args.given.steps c.args.self c.args.given.mark (tree c.args.given.form.now) (model.Toggle (text_at bank c.args.name) (text_at bank c.args.old) c.args.disabled) tt c.args.given.logging
     (record { name = c.args.name; kind = kind.Toggle c.args.old c.args.disabled; mark = c.args.given.mark }) (claim_at bank (closing.Toggle c.args.name c.args.old c.args.disabled)) c.in_ok-block.block
     (none_told c.in_ok-answer.field-0 _ (c.in_ok-answer.ensures c.args.disabled) c.in_default.is) refl refl refl c.in_ok-block.ensures
     c.accepted.result c.accepted.ensures.added c.accepted.ensures.answer c.accepted.ensures.block

@@ -66,14 +66,14 @@ returns-in-Some-clause-tries g c =
     let way = c.in-Some.way in
     let is = sym c.way_in.ensures ∙ c.in-Some.is in
     let found = way_found c.args.given.steps h t tried.found way is told.found in
-    proved_on c.args.given.steps c.proved.result h form name classes t hints c.proved_by.result (Proved (quick_of way)) c.args.given.logging tried.block refl (fragment_tried c.args.given.steps h form hints t way found.0 found.1)
+    proved_on c.args.given.steps c.proved.result old c.args.given.mark form name classes t hints c.proved_by.result (Proved (quick_of way)) c.args.given.logging tried.block refl (fragment_tried c.args.given.steps h form hints t way found.0 found.1)
     (subst (λ (b : Content). IfOk c.proved.result (λ r. history_of r.session ≡ events_at b old.history ++ logic.Lemma (text_at b c.args.lemma.name) classes (term_at b c.args.lemma.goal) ∷ [])) told.same c.proved.ensures.after)
-    c.proved.ensures.stands_after c.proved.ensures.answer c.proved_by.ensures c.proved.ensures.block (λ on. way_block h name t tried.found way tried.block is (told.written on))
+    c.proved.ensures.stands_after (subst (λ (b : Content). IfOk c.proved.result (λ r. r.session.bank ≡ b)) told.same c.proved.ensures.bank) c.proved.ensures.answer c.proved_by.ensures c.proved.ensures.block (λ on. way_block h name t tried.found way tried.block is (told.written on))
 
 pub returns-in-None-clause-tries : goal.returns-in-None-clause-tries
 returns-in-None-clause-tries g c =
     let old = c.args.self in
     let form = tree c.args.given.form.now in
     let classes = map class_of c.args.classes.items in
-    subst (λ (b : Content). IfOk c.searched.result (TriesLemma c.args.given.steps (events_at b old.history) form (text_at b c.args.lemma.name) classes (term_at b c.args.lemma.goal) (hints_at b c.args.lemma.hints.now) c.args.given.logging))
+    subst (λ (b : Content). IfOk c.searched.result (TriesLemma c.args.given.steps (record { bank = b; history = old.history }) c.args.given.mark form (text_at b c.args.lemma.name) classes (term_at b c.args.lemma.goal) (hints_at b c.args.lemma.hints.now) c.args.given.logging))
     c.in_ok-tried.ensures.tried.same c.searched.ensures.tries

@@ -29,8 +29,8 @@ undone-requires-clause-past g c = (c.in-Ok.ensures.events c.args.self.bank c.is_
 pub returns-in_ok-block-in-Ok-clause-taken : goal.returns-in_ok-block-in-Ok-clause-taken
 returns-in_ok-block-in-Ok-clause-taken g c =
     let old = c.args.self in
-    undo_taken c.args.given.steps old c.undone.result (tree c.args.given.form.now) (text_at old.bank c.args.name) c.in-Ok.count c.args.given.logging c.in_ok-block-in-Ok.block
-    (c.in-Ok.ensures.events old.bank c.is_sound.ensures c.requires.stands.history c.requires.name) c.undone.ensures.before c.undone.ensures.stands_after c.in_ok-block-in-Ok.ensures
+    undo_taken c.args.given.steps old c.undone.result c.args.given.mark (tree c.args.given.form.now) (text_at old.bank c.args.name) c.in-Ok.count c.args.given.logging c.in_ok-block-in-Ok.block
+    (c.in-Ok.ensures.events old.bank c.is_sound.ensures c.requires.stands.history c.requires.name) c.undone.ensures.before c.undone.ensures.stands_after c.undone.ensures.bank c.in_ok-block-in-Ok.ensures
 
 pub returns-in_ok-answer-in-Err-NoSuchEvent-clause-taken : goal.returns-in_ok-answer-in-Err-NoSuchEvent-clause-taken
 returns-in_ok-answer-in-Err-NoSuchEvent-clause-taken g c =
@@ -40,7 +40,7 @@ returns-in_ok-answer-in-Err-NoSuchEvent-clause-taken g c =
     let form = tree c.args.given.form.now in
     let answer = answer_of c.in_ok-answer-in-Err-NoSuchEvent.answer in
     let told = subst (λ (f : UndoFault). IsUndo x h (Err f)) c.in-Err-NoSuchEvent.field-0-is (c.in-Err-NoSuchEvent.ensures.events old.bank c.is_sound.ensures c.requires.stands.history c.requires.name) in
-    hindered c.args.given.steps old form (model.Undo x) c.args.given.logging answer c.untaken.result c.untaken.ensures
+    hindered c.args.given.steps old c.args.given.mark form (model.Undo x) c.args.given.logging answer c.untaken.result c.untaken.ensures
     (undo_unknown h form x answer told (c.in_ok-answer-in-Err-NoSuchEvent.ensures ∙ ap (λ (n : Name). refusal_answer (NoSuchEvent n)) c.text.ensures.value))
 
 pub returns-in_ok-answer-in-Err-GroundEvent-clause-taken : goal.returns-in_ok-answer-in-Err-GroundEvent-clause-taken
@@ -51,5 +51,5 @@ returns-in_ok-answer-in-Err-GroundEvent-clause-taken g c =
     let form = tree c.args.given.form.now in
     let answer = answer_of c.in_ok-answer-in-Err-GroundEvent.answer in
     let told = subst (λ (f : UndoFault). IsUndo x h (Err f)) c.in-Err-GroundEvent.field-0-is (c.in-Err-GroundEvent.ensures.events old.bank c.is_sound.ensures c.requires.stands.history c.requires.name) in
-    hindered c.args.given.steps old form (model.Undo x) c.args.given.logging answer c.untaken-in-Err-GroundEvent.result c.untaken-in-Err-GroundEvent.ensures
+    hindered c.args.given.steps old c.args.given.mark form (model.Undo x) c.args.given.logging answer c.untaken-in-Err-GroundEvent.result c.untaken-in-Err-GroundEvent.ensures
     (undo_ground h form x answer told (c.in_ok-answer-in-Err-GroundEvent.ensures ∙ ap (λ (n : Name). refusal_answer (GroundEvent n)) c.text-in-Err-GroundEvent.ensures.value))

@@ -5,7 +5,7 @@ use Rattle.nq_history.proofs.MarkingLemmas.{marked_can}
 use Rattle.nq_history.proofs.UndoLemmas.{undo_told}
 use Rattle.nq_run.specs.HistoryView.{history_of}
 use Rattle.nq_run.specs.declared.session.Session.{Session}
-use Rattle.nq_run.proofs.SessionLemmas.{no_fault, undone_events, undone_fewer, undone_stands, undone_take}
+use Rattle.nq_run.proofs.SessionLemmas.{no_fault, undone_bank, undone_events, undone_fewer, undone_stands, undone_take}
 use Rattle.nq_run.proofs.session.Session.undone.Goals as goal
 
 pub undo_back_through-requires : goal.undo_back_through-requires
@@ -41,6 +41,12 @@ returns-clause-stands_after g c =
     (told.stands c.requires.stands.marked c.requires.stands.history) (told.marked c.requires.stands.marked)
     (undone_events c.args.self c.args.name c.in-Ok.field-0 new c.requires.stands told.answer told.history told.bank
     ∙ told.events c.is_sound.ensures c.requires.stands.history c.requires.name)
+
+pub returns-clause-bank : goal.returns-clause-bank
+returns-clause-bank g c =
+    let new : Session = record { bank = c.undo_back_through.new.bank; history = c.undo_back_through.new.self } in
+    let told = c.in-Ok.ensures in
+    undone_bank c.args.self c.args.name c.in-Ok.field-0 new c.requires.stands told.answer told.history told.bank
 
 pub returns-clause-learnt_after : goal.returns-clause-learnt_after
 returns-clause-learnt_after g c =

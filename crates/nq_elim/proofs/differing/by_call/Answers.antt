@@ -1,0 +1,8 @@
+use Rattle.nq_kernel.proofs.GrowingLemmas.{WorkGrows-refl}
+use Rattle.nq_elim.proofs.differing.by_call.Goals as goal
+
+pub returns-in-None-clause-grows : goal.returns-in-None-clause-grows
+returns-in-None-clause-grows c = WorkGrows-refl c.args.history.now c.args.work.now c.requires.stands
+
+pub returns-else-are_apart-clause-grows : goal.returns-else-are_apart-clause-grows
+returns-else-are_apart-clause-grows c = WorkGrows-refl c.args.history.now c.args.work.now c.requires.stands
