@@ -14,5 +14,7 @@ pub mod MakingLemmas
 pub mod OverLemmas
 pub mod InstanceLemmas
 pub mod ShellSteps
-pub mod SufficingLemmas
-pub mod CallingLemmas
+pub mod DestructorLemmas
+pub mod ServingLemmas
+pub mod FindingLemmas
+pub mod RuleLemmas

@@ -1,6 +1,7 @@
 pub mod Laws
 pub mod Shells
-pub mod Calling
+pub mod Serving
+pub mod Finding
 pub mod Made
 pub mod Literals
 pub mod Instances

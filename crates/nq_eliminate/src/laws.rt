@@ -1,5 +1,5 @@
 //! What the list of eliminations promises. Each function's contract is a law and its body is empty.
-ghost use Rattle.nq_eliminate.specs.Laws.{ListedAreCandidates, NoneIsNone, ShellsSuffice};
+ghost use Rattle.nq_eliminate.specs.Laws.{ListedAreCandidates, NoneIsNone, RulesSuffice};
 
 /// Where the list of eliminations is empty, the goal has no candidate of ELIM.
 pub fn none_is_none()
@@ -11,7 +11,7 @@ pub fn listed_are_candidates()
     ensures { ListedAreCandidates }
 {}
 
-/// Where a goal calls no destructor of the rule of an axiom or a lemma, it has no candidate where no rule of a shell has one in it.
-pub fn shells_suffice()
-    ensures { ShellsSuffice }
+/// Where no rule of an axiom or a lemma has a candidate in a goal, and no rule of a shell, it has none.
+pub fn rules_suffice()
+    ensures { RulesSuffice }
 {}

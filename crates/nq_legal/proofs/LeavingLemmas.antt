@@ -2,7 +2,7 @@
 use Rattle.std.proofs.Common.{◌≡◌, ◌<◌, ◌≤◌, Bool, true, false, Option, Some, None, List, [], ◌∷◌, ◌++◌, length, refl, sym, ap, subst, ◌∙◌, arith, lit<}
 use Rattle.std.specs.Prelude.{◌↔◌, IsTrue, if◌then◌else◌}
 use Rattle.std.specs.Option.{option_map}
-use Rattle.nq_logic.specs.Terms.{Term, Each, IsAmong}
+use Rattle.nq_logic.specs.Terms.{Term, IsAmong}
 use Rattle.nq_events.specs.Inductions.{suggests_induction}
 use Rattle.nq_bank.specs.declared.node.TermId.{TermId}
 use Rattle.nq_bank.specs.Content.{Content, term_at, terms_at}
@@ -10,7 +10,6 @@ use Rattle.nq_proof.specs.Clauses.{Clause}
 use Rattle.nq_history.specs.declared.entry.Entry.{Entry}
 use Rattle.nq_history.specs.declared.hints.Hints.{Hints}
 use Rattle.nq_history.specs.Events.{events_at}
-use Rattle.nq_logic.specs.Ground.{all_events}
 use Rattle.nq_goals.specs.Normal.{IsNormal}
 use Rattle.nq_event.specs.EventsAt.{hints_at}
 use Rattle.nq_kernel.specs.declared.verdict.Cause.TheVariants as causes
@@ -21,8 +20,8 @@ use Rattle.nq_goals.specs.Spent.{IsFalse, normal}
 use Rattle.nq_waterfall.specs.declared.trail.Ancestor.{Ancestor}
 use Rattle.nq_waterfall.specs.Trails.{above_at}
 use Rattle.nq_waterfall.specs.Turns.{SpentAt}
-use Rattle.nq_eliminate.specs.Calling.{CallsNoneOf}
-use Rattle.nq_eliminate.specs.Laws.{ShellsSuffice}
+use Rattle.nq_eliminate.specs.Finding.{HasNoneOfEvents}
+use Rattle.nq_eliminate.specs.Laws.{RulesSuffice}
 use Rattle.nq_legal.specs.Candidates.{HasNoneOfFive}
 use Rattle.nq_legal.specs.Leaving.{IsFreeAt, IsHintedAt, IsStuck, IsToHint, IsToInduct}
 
@@ -139,16 +138,16 @@ not_told false P e k p = absurd (never (k.1 p))
     never : false ≡ true → ⊥
     never e = absurd cc
 
--- a goal is stuck in which these moves have no candidate, where it calls no destructor of the rule of an axiom or a lemma
-pub stuck_if : (bank : Content) (history : List Entry) (hints : Hints) (goal : List TermId) → ShellsSuffice → Each (CallsNoneOf (terms_at bank goal)) (all_events (events_at bank history)) → IsNormal (events_at bank history) (hints_at bank hints) (terms_at bank goal) →
+-- a goal is stuck in which these moves have no candidate, nor ELIM by the rule of an axiom or a lemma
+pub stuck_if : (bank : Content) (history : List Entry) (hints : Hints) (goal : List TermId) → RulesSuffice → HasNoneOfEvents (events_at bank history) (hints_at bank hints) (terms_at bank goal) → IsNormal (events_at bank history) (hints_at bank hints) (terms_at bank goal) →
     (IsFalse (events_at bank history) (terms_at bank goal) → ⊥) → HasNoneOfFive (events_at bank history) (hints_at bank hints) (terms_at bank goal) → IsStuck bank history hints goal
-stuck_if bank history hints goal law none_called form not_false five =
+stuck_if bank history hints goal law none_of_events form not_false five =
     record {
       normal = form;
       not_false = not_false;
       none = record {
         no_substituting = five.of_four.no_substituting;
-        no_eliminating = (law (events_at bank history) (terms_at bank goal) none_called five.of_shells).none (hints_at bank hints);
+        no_eliminating = law (events_at bank history) (hints_at bank hints) (terms_at bank goal) none_of_events five.of_shells;
         no_fertilizing = five.of_four.no_fertilizing;
         no_generalizing = five.of_four.no_generalizing;
         no_dropping = five.of_four.no_dropping;

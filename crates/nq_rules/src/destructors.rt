@@ -64,7 +64,7 @@ fn are_distinct_variables(bank: &Bank, terms: &[TermId]) -> bool
 }
 
 /// Are these the arguments of a destructor call of a variable?
-fn are_of_destructor(bank: &Bank, x: Sym, arguments: &[TermId]) -> bool
+pub fn are_of_destructor(bank: &Bank, x: Sym, arguments: &[TermId]) -> bool
     requires name { IsNamed bank.now x }
     requires arguments { All (Stands bank.now) arguments.now }
     ensures { (f : Name) → result ≡ is_destructor_call (text_at bank.now x) (call f (terms_at bank.now arguments.now)) }

@@ -17,6 +17,7 @@ mod eliminating;
 // the shapes
 mod shapes;
 
+pub use destructors::are_of_destructor;
 pub use heads::{one_of, two_of};
 pub use parts::{conclusion_of, is_call, left_side};
 pub use shapes::{fits, fits_elim, fits_generalize, fits_rewrite};

@@ -2,6 +2,9 @@ use Rattle.nq_kernel.proofs.GrowingLemmas.{WorkGrows-refl}
 use Rattle.nq_waterfall.proofs.SameLemmas.{goal_stands}
 use Rattle.nq_legal.proofs.legal.lead_unmoved.Goals as goal
 
+pub is_stuck-requires-clause-hints : goal.is_stuck-requires-clause-hints
+is_stuck-requires-clause-hints g c = c.requires.ready.hints_stand
+
 pub is_stuck-requires-clause-goal : goal.is_stuck-requires-clause-goal
 is_stuck-requires-clause-goal g c = goal_stands c.args.history.now c.args.work.now c.args.goal.now c.requires.goal
 

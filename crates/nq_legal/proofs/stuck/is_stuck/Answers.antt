@@ -9,4 +9,4 @@ not_true false e = refl
 
 pub returns : goal.returns
 returns c = λ answer.
-    stuck_if c.args.bank.now c.args.history.now c.args.hints.now c.args.goal.now c.shells_suffice.ensures (c.in_ok-may.ensures (not_true c.in_ok-may.may answer)) c.requires.normal c.requires.not_false c.requires.none
+    stuck_if c.args.bank.now c.args.history.now c.args.hints.now c.args.goal.now c.rules_suffice.ensures (c.in_ok-may.ensures (not_true c.in_ok-may.may answer)) c.requires.normal c.requires.not_false c.requires.none

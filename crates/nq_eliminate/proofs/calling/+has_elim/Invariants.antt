@@ -1,5 +1,0 @@
-use Rattle.std.proofs.Common.{length}
-use Rattle.nq_eliminate.proofs.calling.+has_elim.Given as goal
-
-abbrev pub decreases-has_elim : goal.decreases-has_elim
-decreases-has_elim l = length l.classes.now
