@@ -1,27 +1,27 @@
 -- The line of an induction.
-use Rattle.std.proofs.Common.{◌≡◌, ◌∙◌, ℕ, Bool, true, false, ◌&&◌, ◌||◌, Option, Some, List, [], ◌∷◌, ◌++◌, map, refl, ap, inl, inr}
+use Rattle.std.proofs.Common.{◌≡◌, ℕ, Bool, true, false, ◌&&◌, Option, Some, List, [], ◌∷◌, ◌++◌, map, refl, ap}
 use Rattle.std.specs.Prelude.{All, Vec}
 use Rattle.std.specs.declared.alloc.Global.{Global}
-use Rattle.nq_logic.specs.Terms.{Term, IsAmong, Each}
+use Rattle.nq_logic.specs.Terms.{Term, Each}
 use Rattle.nq_logic.specs.Ground.{symbols_of}
 use Rattle.nq_logic.proofs.Lists.{each_append}
 use Rattle.nq_bank.specs.declared.node.TermId.{TermId}
 use Rattle.nq_bank.specs.Content.{Content, term_at, terms_at}
 use Rattle.nq_bank.proofs.NodesLemmas.{All-head, All-tail}
 use Rattle.nq_clause.specs.Substitution.{substitution_at}
-use Rattle.nq_proof.specs.Clauses.{Clause, has_term, is_within, same_term}
-use Rattle.nq_proof.specs.Rules.{has_only, case_tests, case_terms, hypothesis_terms, pair_terms, are_falls, are_steps, when}
+use Rattle.nq_proof.specs.Clauses.{Clause}
+use Rattle.nq_proof.specs.Rules.{case_tests, case_terms, hypothesis_terms, pair_terms, are_falls, are_steps, when}
 use Rattle.nq_rule.specs.declared.induction.InductionStep.{InductionStep}
 use Rattle.nq_rule.specs.declared.induction.CaseOfInduction.{CaseOfInduction}
 use Rattle.nq_rule.specs.Inductions.{hypotheses_at, cases_at}
-use Rattle.nq_rule.proofs.LiteralLemmas.{true_same}
 use Rattle.nq_history.specs.declared.entry.Entry.{Entry}
 use Rattle.nq_history.specs.Events.{events_at}
 use Rattle.nq_kernel.specs.declared.work.Work.{Work}
 use Rattle.nq_kernel.specs.declared.rule.Rule.TheVariants.{Induct}
 use Rattle.nq_kernel.specs.Meaning.{clause_at, conclusion_at, RuleStands}
 use Rattle.nq_kernel.specs.Over.{IsVariable, IsTermOf, RuleIsIn, hypothesis_names, case_names, pair_names}
-use Rattle.nq_lines.specs.Lines.{AreAmong, HasOnly, LineHasOnly, IsTermIn}
+use Rattle.nq_lines.specs.Lines.{LineHasOnly, IsTermIn}
+use Rattle.nq_lines.proofs.OnlyLemmas.{only_true}
 use Rattle.nq_induct.specs.declared.scheme.Scheme.{Scheme}
 use Rattle.nq_induct.specs.Schemes.{IsStepIn, IsSchemeIn}
 use Rattle.nq_induct.specs.Goals.{IsShownCase}
@@ -29,26 +29,6 @@ use Rattle.nq_induct.specs.Goals.{IsShownCase}
 both_true : (a b : Bool) → a ≡ true → b ≡ true → a && b ≡ true
 both_true true b e h = h
 both_true false b e h = absurd cc
-
-or_true : (a b : Bool) → b ≡ true → a || b ≡ true
-or_true true b h = refl
-or_true false b h = h
-
-pub has_true : (t : Term) (d : Clause) → IsAmong t d → has_term t d ≡ true
-has_true t [] m = absurd m
-has_true t (u ∷ d) (inl e) = here (same_term t u) (true_same t u e)
-  where
-    here : (b : Bool) → b ≡ true → b || has_term t d ≡ true
-    here true k = refl
-    here false k = absurd cc
-has_true t (u ∷ d) (inr m) = or_true (same_term t u) (has_term t d) (has_true t d m)
-
-within_true : (c d : Clause) → AreAmong c d → is_within c d ≡ true
-within_true [] d h = refl
-within_true (t ∷ c) d h = both_true (has_term t d) (is_within c d) (has_true t d (h t (inl refl))) (within_true c d (λ u m. h u (inr m)))
-
-pub only_true : (o : Option Clause) (these : Clause) → HasOnly o these → has_only o these ≡ true
-only_true o these h = ap (λ k. has_only k these) h.stands ∙ within_true h.literals these h.only
 
 module _ (history : List Entry) (work : Work) where
   lines : ℕ → Option Clause

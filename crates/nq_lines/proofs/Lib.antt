@@ -15,3 +15,4 @@ pub mod ManyLemmas
 pub mod BranchLemmas
 pub mod LawLemmas
 pub mod WeakenLemmas
+pub mod OnlyLemmas

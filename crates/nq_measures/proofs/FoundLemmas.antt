@@ -1,5 +1,5 @@
 -- What the lines of a measure say of the calls within the body.
-use Rattle.std.proofs.Common.{◌≡◌, ◌<◌, ◌≤◌, ℕ, zero, suc, Bool, true, false, ◌&&◌, ◌||◌, Option, Some, None, List, [], ◌∷◌, ◌+◌, map, length, take, get_or, inl, inr, refl, sym, ap, ap₂, ◌∙◌, subst}
+use Rattle.std.proofs.Common.{◌≡◌, ◌<◌, ◌≤◌, ℕ, zero, suc, Bool, true, false, ◌||◌, Option, Some, None, List, [], ◌∷◌, ◌+◌, map, length, take, get_or, inl, inr, refl, sym, ap, ap₂, ◌∙◌, subst}
 use Rattle.std.specs.Prelude.{All, MatchOption, slice_get}
 use Rattle.nq_logic.specs.Terms.{Name, Term, IsAmong, Each}
 use Rattle.nq_logic.specs.Histories.{History}
@@ -8,12 +8,10 @@ use Rattle.nq_logic.specs.Admissible.{mentions, Call, calls_of, obligation}
 use Rattle.nq_bank.specs.declared.node.Sym.{Sym}
 use Rattle.nq_bank.specs.declared.node.TermId.{TermId}
 use Rattle.nq_bank.specs.Content.{Content, term_at, terms_at}
-use Rattle.nq_proof.specs.Clauses.{Clause, has_term, is_within}
-use Rattle.nq_proof.specs.Rules.{has_only}
-use Rattle.nq_rule.proofs.LiteralLemmas.{true_same}
 use Rattle.nq_kernel.specs.declared.work.Work.{Work}
 use Rattle.nq_kernel.specs.Meaning.{clause_at}
-use Rattle.nq_lines.specs.Lines.{AreAmong, HasOnly, LineHasOnly}
+use Rattle.nq_lines.specs.Lines.{LineHasOnly}
+use Rattle.nq_lines.proofs.OnlyLemmas.{only_true}
 use Rattle.nq_calls.specs.Calls.{beneath, counted_calls}
 use Rattle.std.proofs.lemmas.List.{take_more, take_all}
 use Rattle.nq_logic.specs.Sizes.{depth_of}
@@ -47,29 +45,12 @@ test_either : (a b : Bool) → a ≡ true → a || b ≡ true
 test_either true b e = refl
 test_either false b e = absurd cc
 
-test_or : (a b : Bool) → b ≡ true → a || b ≡ true
-test_or true b e = refl
-test_or false b e = e
-
-among_has : (t : Term) (these : Clause) → IsAmong t these → has_term t these ≡ true
-among_has t [] m = absurd m
-among_has t (u ∷ these) (inl e) = ap (λ b. b || has_term t these) (true_same t u e)
-among_has t (u ∷ these) (inr m) = test_or _ _ (among_has t these m)
-
-only_within : (c these : Clause) → AreAmong c these → is_within c these ≡ true
-only_within [] these among = refl
-only_within (t ∷ c) these among = ap₂ (λ a b. a && b) (among_has t these (among t (inl refl))) (only_within c these (λ p m. among p (inr m)))
-
--- a line that has only these is told as such by the test
-pub only_told : (o : Option Clause) (these : Clause) → HasOnly o these → has_only o these ≡ true
-only_told o these only = ap (λ (c : Option Clause). has_only c these) only.stands ∙ only_within only.literals these only.only
-
 pub falls_told : (work : Work) (f : Name) (xs : List Name) (m : Term) (calls : List Call) (ns : List ℕ) → AllFallBy work f xs m (beneath f [] calls) ns → AreFalls (clause_at work.bank work.log) f xs m calls ns
 falls_told work f xs m [] [] w = tt
 falls_told work f xs m [] (n ∷ ns) w = absurd w
 falls_told work f xs m (c ∷ calls) [] w = absurd w
 falls_told work f xs m (c ∷ calls) (n ∷ ns) w =
-    (record { older = w.0.older; less = only_told (clause_at work.bank work.log n) (obligation f xs m c.tests c.arguments) w.0.less }, falls_told work f xs m calls ns w.1)
+    (record { older = w.0.older; less = only_true (clause_at work.bank work.log n) (obligation f xs m c.tests c.arguments) w.0.less }, falls_told work f xs m calls ns w.1)
 
 all_got : {X : Type 0} (P : X → Type 0) (xs : List X) (i : ℕ) (x : X) → All P xs → slice_get xs i ≡ Some x → P x
 all_got P [] i x h e = absurd cc
@@ -163,7 +144,7 @@ module _ (history : List Entry) (old : Content) (mid new : Work) (f : Sym) (form
         told = map_got (term_at old) tried a.place a.measure w.told;
         measure_stands = trial.measure_stands;
         measure_over = older_over (events_at old history) (text_at old f) (length (texts_at old formals)) (term_at old a.measure) older trial.over;
-        is_ordinal = only_told (clause_at new.bank new.log a.ordinal) (ordinal_clause (term_at old a.measure)) (subst (λ (t : Term). LineHasOnly new a.ordinal (ordinal_clause t)) m w.evidence.ordinal);
+        is_ordinal = only_true (clause_at new.bank new.log a.ordinal) (ordinal_clause (term_at old a.measure)) (subst (λ (t : Term). LineHasOnly new a.ordinal (ordinal_clause t)) m w.evidence.ordinal);
         each_falls =
             falls_told new (text_at old f) (texts_at old formals) (term_at old a.measure) (calls_of (text_at old f) (term_at old body)) a.falls.items
             (subst (λ (cs : List Call). AllFallBy new (text_at old f) (texts_at old formals) (term_at old a.measure) cs a.falls.items) calls

@@ -1,7 +1,7 @@
 -- What a prover's answers say of a nest.
-use Rattle.std.proofs.Common.{◌≡◌, ◌<◌, ◌∷◌, [], ℕ, List, length, true, Option, Some, None, refl, sym, subst, arith}
+use Rattle.std.proofs.Common.{◌≡◌, ◌<◌, ◌∷◌, [], ℕ, List, length, refl, sym, subst, arith}
 use Rattle.std.specs.Prelude.{All}
-use Rattle.nq_logic.specs.Terms.{Term, IsAmong}
+use Rattle.nq_logic.specs.Terms.{Term}
 use Rattle.nq_logic.specs.Histories.{History}
 use Rattle.nq_logic.specs.Ground.{symbols_of}
 use Rattle.nq_logic.specs.Shells.{either_of}
@@ -10,9 +10,6 @@ use Rattle.nq_bank.specs.declared.node.TermId.{TermId}
 use Rattle.nq_bank.specs.Content.{Content, Grows, Stands, IsIdOf, term_at, terms_at}
 use Rattle.nq_bank.proofs.Growth.{terms_at-grown}
 use Rattle.nq_bank.proofs.Standing.{id_grown}
-use Rattle.nq_proof.specs.Clauses.{Clause}
-use Rattle.nq_proof.specs.Rules.{has_only}
-use Rattle.nq_proof.proofs.Tests.{within_each}
 use Rattle.nq_history.specs.declared.entry.Entry.{Entry}
 use Rattle.nq_history.specs.Events.{events_at, HistoryStands}
 use Rattle.nq_history.proofs.HistoryLemmas.{events_at-grown}
@@ -23,17 +20,13 @@ use Rattle.nq_kernel.specs.declared.verdict.Verdict.TheVariants.{Proved}
 use Rattle.nq_kernel.specs.Meaning.{clause_at}
 use Rattle.nq_kernel.specs.Over.{IsVariable, IsTermOf, TermIsIn}
 use Rattle.nq_kernel.specs.Proving.{IsTold}
-use Rattle.nq_lines.specs.Lines.{HasOnly, LineHasOnly}
-use Rattle.nq_measures.proofs.TermLemmas.{among_each}
+use Rattle.nq_lines.specs.Lines.{LineHasOnly}
+use Rattle.nq_lines.proofs.OnlyLemmas.{only_of}
 use Rattle.nq_measures.specs.Judging.{AreIn}
-
-told_only : (o : Option Clause) (t : Term) → has_only o (t ∷ []) ≡ true → HasOnly o (t ∷ [])
-told_only None t e = absurd cc
-told_only (Some c) t e = record { literals = c; stands = refl; only = λ u m. among_each (λ p. IsAmong p (t ∷ [])) c (within_each c (t ∷ []) e) u m }
 
 -- the line of a proof has only the term
 pub proved_only : (work : Work) (t : Term) (v : Verdict) (line : ℕ) (proof : Proof) → v ≡ Proved line proof → IsTold work t v → LineHasOnly work line (t ∷ [])
-proved_only work t v line proof e told = told_only (clause_at work.bank work.log line) t (subst (IsTold work t) e told)
+proved_only work t v line proof e told = only_of (clause_at work.bank work.log line) (t ∷ []) (subst (IsTold work t) e told)
 
 -- a nest in a bank that grew
 pub nest_grown : (old new : Content) (nest : TermId) (ids : List TermId) → Grows old new → All (Stands old) ids → IsIdOf old nest (either_of (terms_at old ids)) → IsIdOf new nest (either_of (terms_at new ids))

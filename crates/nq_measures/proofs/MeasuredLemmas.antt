@@ -25,7 +25,7 @@ use Rattle.nq_lines.specs.Lines.{LineHasOnly}
 use Rattle.nq_calls.specs.Calls.{beneath}
 use Rattle.nq_measures.specs.Measures.{ordinal_clause}
 use Rattle.nq_measures.specs.Trials.{FallUntil, IsShallowTerm}
-use Rattle.nq_measures.proofs.FoundLemmas.{only_told}
+use Rattle.nq_lines.proofs.OnlyLemmas.{only_true}
 use Rattle.nq_measures.proofs.CalledLemmas.{IsShallowCall, body_calls}
 use Rattle.nq_measures.proofs.SearchLemmas.{instance_of}
 
@@ -87,10 +87,10 @@ module _ (h : History) (d : Definition) (work : Work) (m : Term) (hold : LinesHo
   fall_split (c ∷ calls) [] goal w u = record { before = []; here = c; after = calls; split = refl; falls = tt; goal_is = u }
   fall_split (c ∷ calls) (n ∷ ns) goal w u =
       let rest = fall_split calls ns goal w.1 u.1 in
-      let line = only_told (clause_at work.bank work.log n) (obligation d.function d.formals m c.tests c.arguments) u.0.less in
+      let line = only_true (clause_at work.bank work.log n) (obligation d.function d.formals m c.tests c.arguments) u.0.less in
       let fall = fall_at h d (clause_at work.bank work.log) m hold over c n w.0 (record { older = u.0.older; less = line }) in
       record { before = c ∷ rest.before; here = rest.here; after = rest.after; split = ap (λ (cs : List Call). c ∷ cs) rest.split; falls = (fall, rest.falls); goal_is = rest.goal_is }
 
   pub ordinal_derivable : (n : ℕ) → LineHasOnly work n (ordinal_clause m) → Derivable h (clause (ordinal_clause m))
   ordinal_derivable n line =
-      only_holds h (clause_at work.bank work.log n) (ordinal_clause m) (hold n) ((ordinalp_symbol h, over.over), tt) (only_told (clause_at work.bank work.log n) (ordinal_clause m) line)
+      only_holds h (clause_at work.bank work.log n) (ordinal_clause m) (hold n) ((ordinalp_symbol h, over.over), tt) (only_true (clause_at work.bank work.log n) (ordinal_clause m) line)

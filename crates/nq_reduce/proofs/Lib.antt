@@ -7,3 +7,4 @@ pub mod ValueLemmas
 pub mod StepLemmas
 pub mod ShellLemmas
 pub mod EqualLemmas
+mod IrreflexiveLemmas

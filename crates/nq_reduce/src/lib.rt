@@ -68,6 +68,7 @@ mod distinct;
 mod divided;
 mod equal_parts;
 mod equations;
+mod irreflexive;
 mod recognizing;
 mod restricted;
 mod shells;

@@ -9,6 +9,7 @@ use crate::distinct::by_distinct;
 use crate::divided::by_divided_part;
 use crate::equal_parts::by_equal_parts;
 use crate::equations::by_assumed_equation;
+use crate::irreflexive::by_irreflexivity;
 use crate::recognizing::by_kind;
 use crate::results::Rewritten;
 use crate::shells::by_shell;
@@ -174,6 +175,26 @@ fn reduce_by_parts(
     if step.line.is_some() {
         Ok(step)
     } else {
-        by_divided_part(work, history, assumed, t)
+        reduce_by_divided(work, history, assumed, t)
+    }
+}
+
+/// The same, where it is no equation of two objects just made.
+fn reduce_by_divided(
+    work: &mut Work,
+    history: &History,
+    assumed: &[TermId],
+    t: TermId,
+) -> Result<Rewritten, Stop>
+    requires can { CanRewrite history.now work.old assumed.now t }
+    ensures ok { IfOk result (λ r. IsRewritten history.now work.new (terms_at work.old.bank assumed.now) (term_at work.old.bank t) r) }
+    ensures grows { WorkGrows history.now work.old work.new }
+    ensures out { result ≡ Err Stop.OutOfSteps → work.new.counter.used ≡ work.new.counter.limit }
+{
+    let step = by_divided_part(work, history, assumed, t)?;
+    if step.line.is_some() {
+        Ok(step)
+    } else {
+        by_irreflexivity(work, history, assumed, t)
     }
 }

@@ -1,11 +1,6 @@
 -- Lines of goals, as each way back asks for them.
-use Rattle.std.proofs.Common.{◌≡◌, ◌<◌, ◌+◌, ℕ, zero, suc, List, [], ◌∷◌, length, get_or, true, sym, refl, inl, inr, ap, subst, arith}
-use Rattle.std.specs.Prelude.{Option, Some, None}
+use Rattle.std.proofs.Common.{◌≡◌, ◌<◌, ℕ, zero, suc, List, [], ◌∷◌, length, get_or, sym, inl, inr, ap, subst, arith}
 use Rattle.nq_logic.specs.Terms.{IsAmong}
-use Rattle.nq_logic.proofs.Lists.{each_at}
-use Rattle.nq_proof.specs.Clauses.{Clause}
-use Rattle.nq_proof.specs.Rules.{has_only}
-use Rattle.nq_proof.proofs.Tests.{within_each}
 use Rattle.nq_logic.specs.Words.{true_term}
 use Rattle.nq_bank.specs.declared.node.TermId.{TermId}
 use Rattle.nq_bank.specs.Content.{Content, IsIdOf, term_at, terms_at}
@@ -13,13 +8,8 @@ use Rattle.nq_bank.proofs.Standing.{id_grown}
 use Rattle.nq_history.specs.declared.entry.Entry.{Entry}
 use Rattle.nq_kernel.specs.declared.work.Work.{Work}
 use Rattle.nq_kernel.specs.Growing.{WorkGrows, LineHolds}
-use Rattle.nq_lines.specs.Lines.{HasOnly, LineHasOnly}
+use Rattle.nq_lines.specs.Lines.{LineHasOnly}
 use Rattle.nq_lines.proofs.Among.{and_among, none_among}
-
--- a line that has only these terms, by its test
-pub only_of : (o : Option Clause) (these : Clause) → has_only o these ≡ true → HasOnly o these
-only_of None these e = absurd cc
-only_of (Some c) these e = record { literals = c; stands = refl; only = λ t m. each_at (λ p. IsAmong p these) t c (within_each c these e) m }
 
 -- an element of a list is among it
 pub among_get : (xs : List TermId) (i : ℕ) (t d : TermId) → i < length xs → (get_or xs i d).0 ≡ t.0 → IsAmong t xs
