@@ -49,6 +49,6 @@ mod kinds;
 pub use arithmetic::{arithmetic_line, arithmetic_line_by_lemmas};
 pub use functions::{Two, name_of_two};
 pub use kinds::kind_line;
-pub use making::call_two;
+pub use making::{call_two, zero};
 pub use numbers::is_number_by_law;
 pub use reading::terms_in;

@@ -23,7 +23,7 @@ pub fn push_term(terms: &mut Vec<TermId>, t: TermId) -> Result<(), Stop>
 }
 
 /// Makes the constant 0.
-fn zero(work: &mut Work, history: &History) -> Result<TermId, Stop>
+pub fn zero(work: &mut Work, history: &History) -> Result<TermId, Stop>
     requires stands { WorkStands history.now work.old }
     ensures term { IfOk result (λ t. IsTermIn history.now work.new t) }
     ensures grows { WorkGrows history.now work.old work.new }

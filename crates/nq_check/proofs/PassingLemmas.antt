@@ -18,11 +18,11 @@ use Rattle.std.specs.Io.KnownBytes.{Appends}
 use Rattle.std.proofs.KnownBytes.{Appends-nil, Appends-trans}
 use Rattle.nq_io.specs.Told.{AppendsPart}
 use Rattle.nq_logtext.specs.Reading.{line_of}
-use Rattle.nq_log.specs.States.{Claim, Step, Ends, start_of}
+use Rattle.nq_log.specs.States.{Claim, State, Step, Ends, start_of}
 use Rattle.nq_log.specs.Logs.{Malformed, NotAllowed, Reading, wrong, is_header}
 use Rattle.nq_log.specs.Blocks.{HasNoLineFeed}
 use Rattle.nq_log.specs.Growing.{with_claims}
-use Rattle.nq_log.specs.Streams.{AtStart, Between, AtEnd, next_line, reading_after, Move, Moves, Fails, move_at, move_by, reading_moved}
+use Rattle.nq_log.specs.Streams.{Between, AtEnd, next_line, reading_after, Move, Moves, Fails, move_at, move_by, reading_moved}
 use Rattle.nq_log.specs.Logs.{step}
 use Rattle.nq_log.proofs.Streams.{line_moves_law, nothing_follows_law, line_is_read_law, no_line_is_read_law}
 use Rattle.nq_check.specs.declared.checker.Checker.{Checker}
@@ -213,21 +213,23 @@ line_read bytes (Err e) found none = tt
 
 -- ---- the moves of a place between two lines
 
-pub moves_between : (old : Checker) (bytes : List ℕ) (line : Line) (o : Option Step) → old.spot ≡ spot.Between → line_of bytes ≡ Some line → step (state_of old.context) line ≡ o →
-    move_at step (place_of old) (line_of bytes) ≡ move_by old.line (state_of old.context) o
-moves_between old bytes line o e f g =
-    ap (λ (s : Spot). move_at step (place_at s old.line (state_of old.context)) (line_of bytes)) e
-    ∙ ap (λ (l : Option Line). move_at step (Between old.line (state_of old.context)) l) f ∙ ap (move_by old.line (state_of old.context)) g
+pub moves_between : (old : Checker) (line : Line) (o : Option Step) → old.spot ≡ spot.Between → step (state_of old.context) line ≡ o →
+    move_at step (place_of old) (Some line) ≡ move_by old.line (state_of old.context) o
+moves_between old line o e f =
+    ap (λ (s : Spot). move_at step (place_at s old.line (state_of old.context)) (Some line)) e ∙ ap (move_by old.line (state_of old.context)) f
 
-pub not_header : (old : Checker) (bytes : List ℕ) (line : Line) → old.spot ≡ spot.Start → line_of bytes ≡ Some line → is_header line.word ≡ false → move_at step (place_of old) (line_of bytes) ≡ Fails NotAllowed
-not_header old bytes line e f g =
-    ap (λ (s : Spot). move_at step (place_at s old.line (state_of old.context)) (line_of bytes)) e
-    ∙ ap (λ (l : Option Line). move_at step AtStart l) f ∙ ap (λ b. if b then Moves (Between 2 (start_of [])) else Fails NotAllowed) g
+pub header : (old : Checker) (line : Line) → old.spot ≡ spot.Start → is_header line.word ≡ true → move_at step (place_of old) (Some line) ≡ Moves (Between 2 (start_of []))
+header old line e f =
+    ap (λ (s : Spot). move_at step (place_at s old.line (state_of old.context)) (Some line)) e
+    ∙ ap (λ b. if b then Moves (Between 2 (start_of [])) else Fails NotAllowed) f
 
-pub header : (old : Checker) (bytes : List ℕ) (line : Line) → old.spot ≡ spot.Start → line_of bytes ≡ Some line → is_header line.word ≡ true → move_at step (place_of old) (line_of bytes) ≡ Moves (Between 2 (start_of []))
-header old bytes line e f g =
-    ap (λ (s : Spot). move_at step (place_at s old.line (state_of old.context)) (line_of bytes)) e
-    ∙ ap (λ (l : Option Line). move_at step AtStart l) f ∙ ap (λ b. if b then Moves (Between 2 (start_of [])) else Fails NotAllowed) g
+pub no_move : (s : Spot) (n : ℕ) (state : State) → move_at step (place_at s n state) None ≡ Fails Malformed
+no_move spot.Start n state = refl
+no_move spot.Between n state = refl
+no_move spot.End n state = refl
+
+pub end_move : (s : Spot) (n : ℕ) (state : State) (line : Option Line) → s ≡ spot.End → move_at step (place_at s n state) line ≡ Fails Malformed
+end_move s n state line e = ap (λ (s : Spot). move_at step (place_at s n state) line) e
 
 pub at_start : (old : Checker) → IsReady old → old.spot ≡ spot.Start → old.line ≡ 1
 at_start old ready e = ready.line ∙ ap (λ (s : Spot). next_line (place_at s old.line (state_of old.context))) e
@@ -243,7 +245,7 @@ pub extended : {T E : Type 0} (r : Result T E) (new whole other : List ℕ) → 
 extended (Ok x) new whole other e ok = e
 extended (Err x) new whole other e ok = absurd cc
 
-pub ends_place : (old new : Checker) (bytes : List ℕ) (line : Line) → old.spot ≡ spot.Between → line_of bytes ≡ Some line → step (state_of old.context) line ≡ Some Ends →
-    move_at step (place_of old) (line_of bytes) ≡ Moves (AtEnd (old.line + 1))
-ends_place old new bytes line e f g =
-    let one : suc old.line ≡ old.line + 1 = omega arith in moves_between old bytes line (Some Ends) e f g ∙ ap (λ n. Moves (AtEnd n)) one
+pub ends_place : (old : Checker) (line : Line) → old.spot ≡ spot.Between → step (state_of old.context) line ≡ Some Ends →
+    move_at step (place_of old) (Some line) ≡ Moves (AtEnd (old.line + 1))
+ends_place old line e f =
+    let one : suc old.line ≡ old.line + 1 = omega arith in moves_between old line (Some Ends) e f ∙ ap (λ n. Moves (AtEnd n)) one

@@ -1,6 +1,6 @@
 -- The line of a rule, over shared terms.
-use Rattle.std.proofs.Common.{◌≡◌, ℕ, ◌<◌, ◌≤◌, Bool, true, false, List, [], ◌∷◌, ◌++◌, map, refl, sym, ap, ◌∙◌, subst, inl, inr, arith}
-use Rattle.std.specs.Prelude.{Option, Some, None, Result, IfOk, All, is_some, nat_le, ◌&&◌}
+use Rattle.std.proofs.Common.{◌≡◌, ℕ, ◌<◌, ◌≤◌, Bool, true, false, List, [], ◌∷◌, ◌++◌, map, refl, sym, ap, ◌∙◌, subst, inl, inr, arith, rules}
+use Rattle.std.specs.Prelude.{Option, Some, None, Result, IfOk, All, IsSome, is_some, nat_le, ◌&&◌}
 use Rattle.std.specs.declared.alloc.AllocError.{AllocError}
 use Rattle.std.specs.Option.{option_map}
 use Rattle.std.proofs.lemmas.Bool.Decides.{nat_tests}
@@ -96,13 +96,36 @@ none_of (Some c) e = absurd cc
 abbrev pub IsOlder : Context → Coded → Type 0
 IsOlder c rule = are_without (state_of c).block.introduced (rule_terms (rule_at c.bank rule)) ≡ true
 
-pub line_newer : (c : Context) (rule : Coded) → are_without (state_of c).block.introduced (rule_terms (rule_at c.bank rule)) ≡ false → continued (rule_line (state_of c) (Some (rule_at c.bank rule))) ≡ None
+line_newer : (c : Context) (rule : Coded) → are_without (state_of c).block.introduced (rule_terms (rule_at c.bank rule)) ≡ false → continued (rule_line (state_of c) (Some (rule_at c.bank rule))) ≡ None
 line_newer c rule e =
     ap (λ b. continued (only_when b (rule_at c.bank rule) >>= λ rule. conclusion (state_of c).history (clause_at (state_of c).block) rule >>= λ d. only_when (are_shallow d) (with_clause (state_of c).block d))) e
 
-pub line_denied : (c : Context) (rule : Coded) → IsOlder c rule → is_some (conclusion_at c.bank c.history c.log rule) ≡ false → continued (rule_line (state_of c) (Some (rule_at c.bank rule))) ≡ None
+line_denied : (c : Context) (rule : Coded) → IsOlder c rule → is_some (conclusion_at c.bank c.history c.log rule) ≡ false → continued (rule_line (state_of c) (Some (rule_at c.bank rule))) ≡ None
 line_denied c rule older e =
     ap continued (rule_denied (state_of c) (rule_at c.bank rule) older (sym (conclusion_same c rule) ∙ none_of (conclusion_at c.bank c.history c.log rule) e))
+
+pub first_holds : (a b : Bool) → (a && b) ≡ true → a ≡ true
+first_holds true b e = refl
+first_holds false b e = e
+
+second_holds : (a b : Bool) → (a && b) ≡ true → b ≡ true
+second_holds true b e = e
+second_holds false b e = absurd cc
+
+some_of : (o : Option Clause) → is_some o ≡ true → IsSome o
+some_of None e = absurd cc
+some_of (Some c) e = search rules
+
+pub some_concluded : (a : Bool) (o : Option Clause) → (a && is_some o) ≡ true → IsSome o
+some_concluded a o e = some_of o (second_holds a (is_some o) e)
+
+either_fails : (a b : Bool) (X : Type 0) → (a ≡ false → X) → (a ≡ true → b ≡ false → X) → (a && b) ≡ false → X
+either_fails true b X first second e = second refl e
+either_fails false b X first second e = first refl
+
+pub line_refused : (c : Context) (rule : Coded) → (are_without (state_of c).block.introduced (rule_terms (rule_at c.bank rule)) && is_some (conclusion_at c.bank c.history c.log rule)) ≡ false →
+    continued (rule_line (state_of c) (Some (rule_at c.bank rule))) ≡ None
+line_refused c rule e = either_fails _ _ _ (line_newer c rule) (line_denied c rule) e
 
 pub line_too_deep : (c : Context) (rule : Coded) → IsOlder c rule → IsDeep (conclusion_at c.bank c.history c.log rule) → continued (rule_line (state_of c) (Some (rule_at c.bank rule))) ≡ None
 line_too_deep c rule older d =

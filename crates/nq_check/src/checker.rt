@@ -1,5 +1,5 @@
 //! A checker between two lines of a log.
-ghost use Rattle.std.specs.Prelude.{◌≡◌, ℕ, ◌+◌, ◌<◌, ◌^◌, [], ◌∷◌, ◌++◌, List, IfOk, OnErr, MatchOption, OnOk, Err, ◌≤◌};
+ghost use Rattle.std.specs.Prelude.{◌≡◌, ℕ, ◌+◌, ◌<◌, ◌^◌, [], ◌∷◌, ◌++◌, List, IfOk, OnErr, MatchOption, OnOk, Err, Some, ◌≤◌};
 ghost use Rattle.std.specs.Option.{option_map};
 ghost use Rattle.nq_io.specs.Faults.{Rose};
 ghost use Rattle.nq_logtext.specs.Reading.{line_of};
@@ -113,49 +113,58 @@ impl Checker {
         })
     }
 
-    /// Judges a line, which has no end.
+    /// Judges a line, which has no end. No line stands after the last one.
+    #[tactic(auto, using(crate::proofs::PassingLemmas::no_move, crate::proofs::PassingLemmas::end_move))]
     pub fn take_line(&mut self, bytes: &[u8]) -> Result<Moved, AllocError>
         requires ready { IsReady self.old }
         requires room { self.old.line + 1 < 2 ^ 64 }
         ensures { IfOk result (λ moved. IsMove (move_at step (place_of self.old) (line_of bytes.now)) moved self.old self.new) }
     {
+        if self.spot == Spot::End {
+            return Ok(Moved::Fails(Refusal::Malformed));
+        }
+        match read_line(self.context.bank.alloc(), bytes)? {
+            Some(line) => self.take_read(&line),
+            None => Ok(Moved::Fails(Refusal::Malformed)),
+        }
+    }
+
+    /// Judges a line that was read.
+    fn take_read(&mut self, line: &LogLine) -> Result<Moved, AllocError>
+        requires ready { IsReady self.old }
+        requires room { self.old.line + 1 < 2 ^ 64 }
+        ensures { IfOk result (λ moved. IsMove (move_at step (place_of self.old) (Some (view line.now))) moved self.old self.new) }
+    {
         match self.spot {
-            Spot::Start => self.take_header(bytes),
-            Spot::Between => self.take_between(bytes),
+            Spot::Start => self.take_header(line),
+            Spot::Between => self.take_between(line),
             Spot::End => Ok(Moved::Fails(Refusal::Malformed)),
         }
     }
 
-    fn take_header(&mut self, bytes: &[u8]) -> Result<Moved, AllocError>
+    fn take_header(&mut self, line: &LogLine) -> Result<Moved, AllocError>
         requires ready { IsReady self.old }
         requires room { self.old.line + 1 < 2 ^ 64 }
         requires start { self.old.spot ≡ Spot.Start }
-        ensures { IfOk result (λ moved. IsMove (move_at step (place_of self.old) (line_of bytes.now)) moved self.old self.new) }
+        ensures { IfOk result (λ moved. IsMove (move_at step (place_of self.old) (Some (view line.now))) moved self.old self.new) }
     {
-        let alloc = self.context.bank.alloc();
-        let Some(line) = read_line(alloc, bytes)? else {
-            return Ok(Moved::Fails(Refusal::Malformed));
-        };
-        let header = is_header(&line);
+        let header = is_header(line);
         if !header {
             return Ok(Moved::Fails(Refusal::NotAllowed));
         }
-        self.context = Context::new(alloc)?;
+        self.context = Context::new(self.context.bank.alloc())?;
         self.spot = Spot::Between;
         self.line = 2;
         Ok(Moved::Moves)
     }
 
-    fn take_between(&mut self, bytes: &[u8]) -> Result<Moved, AllocError>
+    fn take_between(&mut self, line: &LogLine) -> Result<Moved, AllocError>
         requires ready { IsReady self.old }
         requires room { self.old.line + 1 < 2 ^ 64 }
         requires between { self.old.spot ≡ Spot.Between }
-        ensures { IfOk result (λ moved. IsMove (move_at step (place_of self.old) (line_of bytes.now)) moved self.old self.new) }
+        ensures { IfOk result (λ moved. IsMove (move_at step (place_of self.old) (Some (view line.now))) moved self.old self.new) }
     {
-        let Some(line) = read_line(self.context.bank.alloc(), bytes)? else {
-            return Ok(Moved::Fails(Refusal::Malformed));
-        };
-        match self.context.judge(&line)? {
+        match self.context.judge(line)? {
             Judged::NotAllowed => Ok(Moved::Fails(Refusal::NotAllowed)),
             Judged::Continues => {
                 self.line += 1;

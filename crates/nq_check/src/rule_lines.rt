@@ -1,5 +1,5 @@
 //! The lines that give a block its clauses.
-ghost use Rattle.std.specs.Prelude.{◌≡◌, [], ◌∷◌, IfOk, IfSome, IsSome, Some, true};
+ghost use Rattle.std.specs.Prelude.{◌≡◌, ◌&&◌, [], ◌∷◌, IfOk, IfSome, IsSome, Some, is_some, true};
 ghost use Rattle.std.specs.Option.{option_map};
 ghost use Rattle.nq_logtext.specs.Fields.{name, number};
 ghost use Rattle.nq_kernel.specs.Meaning.{rule_at, RuleStands, conclusion_at};
@@ -44,17 +44,25 @@ impl Context {
         }
     }
 
+    /// May a rule be added after the lines so far, as far as its clause is not too deep?
+    fn may_add(&self, rule: &Rule) -> Result<bool, AllocError>
+        requires whole { IsWhole self.now }
+        requires rule { RuleStands self.now.bank rule.now }
+        ensures { IfOk result (λ b. b ≡ (are_without (state_of self.now).block.introduced (rule_terms (rule_at self.now.bank rule.now)) && is_some (conclusion_at self.now.bank self.now.history self.now.log rule.now))) }
+    {
+        if !self.is_older(rule)? {
+            return Ok(false);
+        }
+        self.log.allowed(&self.bank, &self.history, rule)
+    }
+
     /// Adds the line of a rule, where it is allowed.
     fn add_line(&mut self, rule: Rule) -> Result<Judged, AllocError>
         requires whole { IsWhole self.old }
         requires rule { RuleStands self.old.bank rule }
         ensures { IfOk result (λ judged. Leads (state_of self.old) (continued (rule_line (state_of self.old) (Some (rule_at self.old.bank rule)))) judged self.new) }
     {
-        if !self.is_older(&rule)? {
-            return Ok(Judged::NotAllowed);
-        }
-        let allowed = self.log.allowed(&self.bank, &self.history, &rule)?;
-        if allowed {
+        if self.may_add(&rule)? {
             self.add_allowed(rule)
         } else {
             Ok(Judged::NotAllowed)

@@ -1,12 +1,14 @@
 -- Literals that are dropped.
 use Rattle.std.proofs.Common.{◌≡◌, ◌<◌, ◌≤◌, ◌+◌, ◌∷◌, ◌++◌, [], ℕ, zero, suc, true, false, List, Option, Some, None, length, get_or, drop, refl, sym, ap, ◌∙◌, subst, inl, inr, arith}
 use Rattle.std.specs.Prelude.{All, Result, IfOk, IfSome, codes}
-use Rattle.nq_logic.specs.Terms.{Term}
+use Rattle.nq_logic.specs.Terms.{Term, Each, IsAmong}
 use Rattle.nq_logic.specs.Words.{equal_term, false_term, not_term}
 use Rattle.nq_bank.specs.declared.node.TermId.{TermId}
 use Rattle.nq_bank.specs.Content.{Content, term_at, terms_at}
 use Rattle.nq_rule.proofs.Made.{for_ok}
+use Rattle.nq_bank.proofs.NodesLemmas.{All-head, All-tail}
 use Rattle.nq_history.specs.declared.entry.Entry.{Entry}
+use Rattle.nq_history.specs.Events.{events_at}
 use Rattle.nq_kernel.specs.declared.work.Work.{Work}
 use Rattle.nq_kernel.specs.declared.work.Stop.{Stop}
 use Rattle.nq_kernel.specs.Growing.{WorkStands, WorkGrows}
@@ -15,7 +17,8 @@ use Rattle.nq_lines.proofs.Among.{and_among, beside, on_left, on_right}
 use Rattle.nq_lines.proofs.LineLemmas.{only_grown, only_more}
 use Rattle.nq_lines.proofs.TermLemmas.{same_term_grown}
 use Rattle.nq_reduce.specs.declared.knowledge.Known.{Known}
-use Rattle.nq_reduce.specs.Clauses.{AreLiterals, DropsTo}
+use Rattle.nq_lines.specs.OwnTerms.{IsOver}
+use Rattle.nq_reduce.specs.Clauses.{AreLiterals, DropsTo, LineIsIn}
 use Rattle.nq_lines.specs.declared.facts.Sides.{Sides}
 use Rattle.nq_instances.specs.Parts.{AreSides}
 use Rattle.nq_reduce.specs.Rewriting.{CanRewrite, IsKnown, denials}
@@ -111,3 +114,18 @@ pub rest_told : (history : List Entry) (old one new : Work) (grows : WorkGrows h
 rest_told history old one new grows assumed kept r can h =
     subst (λ ts. IfOk r (λ found. IfSome found (λ n. LineHasOnly new n (term_at old.bank kept ∷ denials ts)))) (terms_same history old one grows assumed can.hypotheses) (
     subst (λ u. IfOk r (λ found. IfSome found (λ n. LineHasOnly new n (u ∷ denials (terms_at one.bank assumed))))) (same_term_grown history old one kept grows can.term) h)
+
+-- ---- lines that have only some literals
+
+each_of : (P : Term → Type 0) (xs : List Term) → ((t : Term) → IsAmong t xs → P t) → Each P xs
+each_of P [] h = tt
+each_of P (x ∷ xs) h = (h x (inl refl), each_of P xs (λ t m. h t (inr m)))
+
+among_over : (history : List Entry) (work : Work) (ids : List TermId) → All (IsTermIn history work) ids → (t : Term) → IsAmong t (terms_at work.bank ids) → IsOver (events_at work.bank history) t
+among_over history work [] all t m = absurd m
+among_over history work (u ∷ us) all t (inl e) = subst (IsOver (events_at work.bank history)) (sym e) (All-head (IsTermIn history work) u us all).over
+among_over history work (u ∷ us) all t (inr m) = among_over history work us (All-tail (IsTermIn history work) u us all) t m
+
+-- the literals of a line that has only some terms are over the history where these are
+pub only_in : (history : List Entry) (work : Work) (line : ℕ) (ids : List TermId) → All (IsTermIn history work) ids → LineHasOnly work line (terms_at work.bank ids) → LineIsIn history work line
+only_in history work line ids all h = record { literals = h.literals; holds = h.stands; over = each_of (IsOver (events_at work.bank history)) h.literals (λ t m. among_over history work ids all t (h.only t m)) }

@@ -8,6 +8,7 @@ ghost use Rattle.nq_lines.specs.Lines.{IsTermIn, LineHasOnly};
 ghost use Rattle.nq_reduce.specs.Clauses.{AreLiterals, DropsTo};
 ghost use Rattle.nq_reduce.specs.Rewriting.{CanRewrite, IsKnown, denials};
 
+use crate::clauses::literals_of;
 use crate::knowledge::{Known, known_false};
 use crate::settling::settled;
 use crate::values::is_falsity;
@@ -275,6 +276,26 @@ fn kept_or_without(
     } else {
         without(work, history, assumed, t, line)
     }
+}
+
+/// Adds a line that has only one of these literals, from a line of them, where each other one is known to be false.
+pub fn kept_among(
+    work: &mut Work,
+    history: &History,
+    assumed: &[TermId],
+    kept: TermId,
+    goal: &[TermId],
+    line: u64,
+) -> Result<Option<u64>, Stop>
+    requires can { CanRewrite history.now work.old assumed.now kept }
+    requires goal { All (IsTermIn history.now work.old) goal.now }
+    requires line { LineHasOnly work.old line (terms_at work.old.bank goal.now) }
+    ensures line { IfOk result (λ found. IfSome found (λ n. LineHasOnly work.new n (term_at work.old.bank kept ∷ denials (terms_at work.old.bank assumed.now)))) }
+    ensures grows { WorkGrows history.now work.old work.new }
+    ensures out { result ≡ Err Stop.OutOfSteps → work.new.counter.used ≡ work.new.counter.limit }
+{
+    let literals = literals_of(work, history, line)?;
+    kept_alone(work, history, assumed, kept, literals.as_slice(), line)
 }
 
 /// Adds a line that has only one of the literals of another, where each other one is known to be false.

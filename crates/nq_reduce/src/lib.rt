@@ -80,6 +80,7 @@ mod reducing;
 pub use assumptions::by_assumption;
 pub use branches::{choose, known_before, with_more};
 pub use congruence::{argument_count, argument_of, congruent};
+pub use dropping::kept_among;
 pub use following::follow;
 pub use held::{conclusion_for, opening_of, part_for, relieved, rewritten_by, rule_for};
 pub use knowledge::{Known, known_truth};

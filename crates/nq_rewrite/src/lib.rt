@@ -25,6 +25,10 @@ mod kinded;
 mod kinds;
 mod told_kinds;
 
+// what linear arithmetic tells of tests, and of differences
+mod arithmetic;
+mod differences;
+
 // rules with variables that their left sides do not bind
 mod binding;
 

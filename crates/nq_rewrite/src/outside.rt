@@ -6,7 +6,7 @@ ghost use Rattle.nq_kernel.specs.Growing.{WorkGrows};
 ghost use Rattle.nq_reduce.specs.Held.{IsHeld};
 ghost use Rattle.nq_reduce.specs.Rewriting.{CanRewrite, IsRewritten};
 
-use crate::kinded::reduce_kinded;
+use crate::differences::reduce_numbered;
 use crate::opening::rewrite_by_opening;
 use crate::reducing::try_rules;
 use crate::rewriting::rewrite_term;
@@ -60,7 +60,7 @@ fn rewrite_call(
     ensures grows { WorkGrows history.now work.old work.new }
     ensures out { result ≡ Err Stop.OutOfSteps → work.new.counter.used ≡ work.new.counter.limit }
 {
-    let step = reduce_kinded(work, history, assumed, t)?;
+    let step = reduce_numbered(work, history, way.hints, assumed, t)?;
     match step.line {
         Some(_) => rewrite_on(work, history, way, search, assumed, depth, t, step),
         None => rewrite_further(work, history, way, search, assumed, depth, t),

@@ -25,6 +25,9 @@ pub const BODY: u64 = 0x510E_527F_ADE6_82D1;
 /// The number of the marks of what is asked of calls.
 pub const QUESTION: u64 = 0x9B05_688C_2B3E_6C1F;
 
+/// The number of the marks of what arithmetic was asked about.
+pub const NUMBERS: u64 = 0x1F83_D9AB_FB41_BD6B;
+
 /// How many nodes a test of a body may have beside those of the call.
 const TEST_NODES: u64 = 4;
 
@@ -39,6 +42,8 @@ pub fn mixed(mark: u64, more: u64) -> u64 {
 pub struct Search {
     /// Whether the innermost opening is given up.
     pub given_up: bool,
+    /// How often arithmetic was asked about a test.
+    pub asked: u32,
     /// Whether something was not tried for what it stands within, since the term at hand was entered.
     bound: bool,
     /// The marks of terms that nothing rewrites, with what is assumed and with what they stand within.
@@ -81,6 +86,7 @@ impl Search {
     pub fn new(alloc: Global) -> Search {
         Search {
             given_up: false,
+            asked: 0,
             bound: false,
             settled: HashMap::new(alloc),
         }
@@ -121,6 +127,11 @@ impl Search {
     /// May what is learnt of the term at hand be used wherever it stands?
     pub fn is_free(&self) -> bool {
         !self.bound
+    }
+
+    /// Arithmetic is asked once more.
+    pub fn ask(&mut self) {
+        self.asked = self.asked.saturating_add(1);
     }
 
     /// Gives the innermost opening up.

@@ -12,7 +12,7 @@ ghost use Rattle.nq_reduce.specs.Rewriting.{CanRewrite, IsArgument, IsKnown, IsR
 use crate::asking::{
     asked_of, asked_of_branch, asked_of_opened, asked_of_tested, asks_made, dividing_test,
 };
-use crate::kinded::reduce_kinded;
+use crate::differences::reduce_numbered;
 use crate::outside::rewrite_on;
 use crate::questions::{drops_call, function_opened, leave_question};
 use crate::rewriting::{rewrite_parts, rewrite_term};
@@ -119,7 +119,7 @@ fn rewrite_answered(
     ensures grows { WorkGrows history.now work.old work.new }
     ensures out { result ≡ Err Stop.OutOfSteps → work.new.counter.used ≡ work.new.counter.limit }
 {
-    let step = reduce_kinded(work, history, assumed, t)?;
+    let step = reduce_numbered(work, history, way.hints, assumed, t)?;
     match step.line {
         Some(_) => rewrite_on(work, history, way, search, assumed, depth, t, step),
         None => rewrite_parts(work, history, way, search, assumed, depth, t),

@@ -8,6 +8,7 @@ ghost use Rattle.nq_instances.specs.Parts.{IsIfOf};
 ghost use Rattle.nq_lines.specs.Lines.{IsTermIn};
 ghost use Rattle.nq_reduce.specs.Rewriting.{CanRewrite, IsKnown, IsRewritten};
 
+use crate::arithmetic::known_by_arithmetic;
 use crate::reducing::try_rules;
 use crate::rewriting::rewrite_term;
 use crate::search::Search;
@@ -73,7 +74,7 @@ fn rewrite_tested(
     }
 }
 
-/// What is known of a test, also by rules that say that it is true.
+/// What is known of a test, also by rules that say that it is true, and by linear arithmetic.
 #[cycle(rewriting)]
 pub fn known_test(
     work: &mut Work,
@@ -96,7 +97,7 @@ pub fn known_test(
     }
 }
 
-/// What is known of a test by rules that say that it is true.
+/// What is known of a test by rules that say that it is true, or by linear arithmetic.
 #[cycle(rewriting)]
 fn known_by_rules(
     work: &mut Work,
@@ -115,7 +116,7 @@ fn known_by_rules(
 {
     match try_rules(work, history, way, search, assumed, depth, t, true)? {
         Some(fact) => Ok(known_by_fact(work, history, assumed, fact, t)),
-        None => Ok(None),
+        None => known_by_arithmetic(work, history, way, search, assumed, t),
     }
 }
 

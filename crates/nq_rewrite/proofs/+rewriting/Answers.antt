@@ -435,6 +435,37 @@ testing::known_by_rules-returns-in-Some-clause-known t c =
     let g1 : WorkGrows h old one = c.try_rules.ensures.grows in
     known_told h old one g1 hyps c.args.t c.requires.can one (Ok c.known_by_fact.result) c.known_by_fact.ensures
 
+pub testing::known_by_rules-known_by_arithmetic-requires : goal.testing::known_by_rules-known_by_arithmetic-requires
+testing::known_by_rules-known_by_arithmetic-requires t c =
+    let h : List Entry = c.args.history.now in
+    let hyps : List TermId = c.args.assumed.now in
+    let old : Work = c.args.work.now in
+    let one : Work = c.try_rules.new.work in
+    let g1 : WorkGrows h old one = c.try_rules.ensures.grows in
+    record { can = can_grown h old one g1 hyps c.args.t c.requires.can }
+
+pub testing::known_by_rules-returns-in-None-clause-known : goal.testing::known_by_rules-returns-in-None-clause-known
+testing::known_by_rules-returns-in-None-clause-known t c =
+    let h : List Entry = c.args.history.now in
+    let hyps : List TermId = c.args.assumed.now in
+    let old : Work = c.args.work.now in
+    let one : Work = c.try_rules.new.work in
+    let g1 : WorkGrows h old one = c.try_rules.ensures.grows in
+    let two : Work = c.known_by_arithmetic.new.work in
+    let g2 : WorkGrows h one two = c.known_by_arithmetic.ensures.grows in
+    known_told h old one g1 hyps c.args.t c.requires.can two c.known_by_arithmetic.result c.known_by_arithmetic.ensures.known
+
+pub testing::known_by_rules-returns-in-None-clause-grows : goal.testing::known_by_rules-returns-in-None-clause-grows
+testing::known_by_rules-returns-in-None-clause-grows t c =
+    let h : List Entry = c.args.history.now in
+    let hyps : List TermId = c.args.assumed.now in
+    let old : Work = c.args.work.now in
+    let one : Work = c.try_rules.new.work in
+    let g1 : WorkGrows h old one = c.try_rules.ensures.grows in
+    let two : Work = c.known_by_arithmetic.new.work in
+    let g2 : WorkGrows h one two = c.known_by_arithmetic.ensures.grows in
+    (WorkGrows-trans h old one two g1 g2)
+
 pub testing::rewrite_chosen-rewrite_term-requires : goal.testing::rewrite_chosen-rewrite_term-requires
 testing::rewrite_chosen-rewrite_term-requires t c =
     let h : List Entry = c.args.history.now in
@@ -1097,8 +1128,8 @@ outside::rewrite_call-rewrite_on-requires t c =
     let h : List Entry = c.args.history.now in
     let hyps : List TermId = c.args.assumed.now in
     let old : Work = c.args.work.now in
-    let one : Work = c.reduce_kinded.new.work in
-    let g1 : WorkGrows h old one = c.reduce_kinded.ensures.grows in
+    let one : Work = c.reduce_numbered.new.work in
+    let g1 : WorkGrows h old one = c.reduce_numbered.ensures.grows in
     let fewer : one.counter.limit - one.counter.used ≤ old.counter.limit - old.counter.used = fewer_left h old one g1 in
     (omega (arith, fewer), (c.requires.depth, ((can_grown h old one g1 hyps c.args.t c.requires.can), rewritten_now h hyps old one c.args.t c.in_ok-step.step g1 c.requires.can c.in_ok-step.ensures.ok)))
 
@@ -1107,8 +1138,8 @@ outside::rewrite_call-returns-in-Some-clause-ok t c =
     let h : List Entry = c.args.history.now in
     let hyps : List TermId = c.args.assumed.now in
     let old : Work = c.args.work.now in
-    let one : Work = c.reduce_kinded.new.work in
-    let g1 : WorkGrows h old one = c.reduce_kinded.ensures.grows in
+    let one : Work = c.reduce_numbered.new.work in
+    let g1 : WorkGrows h old one = c.reduce_numbered.ensures.grows in
     let two : Work = c.rewrite_on.new.work in
     let g2 : WorkGrows h one two = c.rewrite_on.ensures.grows in
     told_before h hyps old one two c.args.t c.rewrite_on.result g1 c.requires.can c.rewrite_on.ensures.ok
@@ -1118,8 +1149,8 @@ outside::rewrite_call-returns-in-Some-clause-grows t c =
     let h : List Entry = c.args.history.now in
     let hyps : List TermId = c.args.assumed.now in
     let old : Work = c.args.work.now in
-    let one : Work = c.reduce_kinded.new.work in
-    let g1 : WorkGrows h old one = c.reduce_kinded.ensures.grows in
+    let one : Work = c.reduce_numbered.new.work in
+    let g1 : WorkGrows h old one = c.reduce_numbered.ensures.grows in
     let two : Work = c.rewrite_on.new.work in
     let g2 : WorkGrows h one two = c.rewrite_on.ensures.grows in
     (WorkGrows-trans h old one two g1 g2)
@@ -1129,8 +1160,8 @@ outside::rewrite_call-rewrite_further-requires t c =
     let h : List Entry = c.args.history.now in
     let hyps : List TermId = c.args.assumed.now in
     let old : Work = c.args.work.now in
-    let one : Work = c.reduce_kinded.new.work in
-    let g1 : WorkGrows h old one = c.reduce_kinded.ensures.grows in
+    let one : Work = c.reduce_numbered.new.work in
+    let g1 : WorkGrows h old one = c.reduce_numbered.ensures.grows in
     let fewer : one.counter.limit - one.counter.used ≤ old.counter.limit - old.counter.used = fewer_left h old one g1 in
     (omega (arith, fewer), (c.requires.depth, (can_grown h old one g1 hyps c.args.t c.requires.can)))
 
@@ -1139,8 +1170,8 @@ outside::rewrite_call-returns-in-None-clause-ok t c =
     let h : List Entry = c.args.history.now in
     let hyps : List TermId = c.args.assumed.now in
     let old : Work = c.args.work.now in
-    let one : Work = c.reduce_kinded.new.work in
-    let g1 : WorkGrows h old one = c.reduce_kinded.ensures.grows in
+    let one : Work = c.reduce_numbered.new.work in
+    let g1 : WorkGrows h old one = c.reduce_numbered.ensures.grows in
     let two : Work = c.rewrite_further.new.work in
     let g2 : WorkGrows h one two = c.rewrite_further.ensures.grows in
     told_before h hyps old one two c.args.t c.rewrite_further.result g1 c.requires.can c.rewrite_further.ensures.ok
@@ -1150,8 +1181,8 @@ outside::rewrite_call-returns-in-None-clause-grows t c =
     let h : List Entry = c.args.history.now in
     let hyps : List TermId = c.args.assumed.now in
     let old : Work = c.args.work.now in
-    let one : Work = c.reduce_kinded.new.work in
-    let g1 : WorkGrows h old one = c.reduce_kinded.ensures.grows in
+    let one : Work = c.reduce_numbered.new.work in
+    let g1 : WorkGrows h old one = c.reduce_numbered.ensures.grows in
     let two : Work = c.rewrite_further.new.work in
     let g2 : WorkGrows h one two = c.rewrite_further.ensures.grows in
     (WorkGrows-trans h old one two g1 g2)
@@ -1786,8 +1817,8 @@ selecting::rewrite_answered-rewrite_on-requires t c =
     let h : List Entry = c.args.history.now in
     let hyps : List TermId = c.args.assumed.now in
     let old : Work = c.args.work.now in
-    let one : Work = c.reduce_kinded.new.work in
-    let g1 : WorkGrows h old one = c.reduce_kinded.ensures.grows in
+    let one : Work = c.reduce_numbered.new.work in
+    let g1 : WorkGrows h old one = c.reduce_numbered.ensures.grows in
     let fewer : one.counter.limit - one.counter.used ≤ old.counter.limit - old.counter.used = fewer_left h old one g1 in
     (omega (arith, fewer), (c.requires.depth, ((can_grown h old one g1 hyps c.args.t c.requires.can), rewritten_now h hyps old one c.args.t c.in_ok-step.step g1 c.requires.can c.in_ok-step.ensures.ok)))
 
@@ -1796,8 +1827,8 @@ selecting::rewrite_answered-returns-in-Some-clause-ok t c =
     let h : List Entry = c.args.history.now in
     let hyps : List TermId = c.args.assumed.now in
     let old : Work = c.args.work.now in
-    let one : Work = c.reduce_kinded.new.work in
-    let g1 : WorkGrows h old one = c.reduce_kinded.ensures.grows in
+    let one : Work = c.reduce_numbered.new.work in
+    let g1 : WorkGrows h old one = c.reduce_numbered.ensures.grows in
     let two : Work = c.rewrite_on.new.work in
     let g2 : WorkGrows h one two = c.rewrite_on.ensures.grows in
     told_before h hyps old one two c.args.t c.rewrite_on.result g1 c.requires.can c.rewrite_on.ensures.ok
@@ -1807,8 +1838,8 @@ selecting::rewrite_answered-returns-in-Some-clause-grows t c =
     let h : List Entry = c.args.history.now in
     let hyps : List TermId = c.args.assumed.now in
     let old : Work = c.args.work.now in
-    let one : Work = c.reduce_kinded.new.work in
-    let g1 : WorkGrows h old one = c.reduce_kinded.ensures.grows in
+    let one : Work = c.reduce_numbered.new.work in
+    let g1 : WorkGrows h old one = c.reduce_numbered.ensures.grows in
     let two : Work = c.rewrite_on.new.work in
     let g2 : WorkGrows h one two = c.rewrite_on.ensures.grows in
     (WorkGrows-trans h old one two g1 g2)
@@ -1818,8 +1849,8 @@ selecting::rewrite_answered-rewrite_parts-requires t c =
     let h : List Entry = c.args.history.now in
     let hyps : List TermId = c.args.assumed.now in
     let old : Work = c.args.work.now in
-    let one : Work = c.reduce_kinded.new.work in
-    let g1 : WorkGrows h old one = c.reduce_kinded.ensures.grows in
+    let one : Work = c.reduce_numbered.new.work in
+    let g1 : WorkGrows h old one = c.reduce_numbered.ensures.grows in
     let fewer : one.counter.limit - one.counter.used ≤ old.counter.limit - old.counter.used = fewer_left h old one g1 in
     (omega (arith, fewer), (c.requires.depth, (can_grown h old one g1 hyps c.args.t c.requires.can)))
 
@@ -1828,8 +1859,8 @@ selecting::rewrite_answered-returns-in-None-clause-ok t c =
     let h : List Entry = c.args.history.now in
     let hyps : List TermId = c.args.assumed.now in
     let old : Work = c.args.work.now in
-    let one : Work = c.reduce_kinded.new.work in
-    let g1 : WorkGrows h old one = c.reduce_kinded.ensures.grows in
+    let one : Work = c.reduce_numbered.new.work in
+    let g1 : WorkGrows h old one = c.reduce_numbered.ensures.grows in
     let two : Work = c.rewrite_parts.new.work in
     let g2 : WorkGrows h one two = c.rewrite_parts.ensures.grows in
     told_before h hyps old one two c.args.t c.rewrite_parts.result g1 c.requires.can c.rewrite_parts.ensures.ok
@@ -1839,8 +1870,8 @@ selecting::rewrite_answered-returns-in-None-clause-grows t c =
     let h : List Entry = c.args.history.now in
     let hyps : List TermId = c.args.assumed.now in
     let old : Work = c.args.work.now in
-    let one : Work = c.reduce_kinded.new.work in
-    let g1 : WorkGrows h old one = c.reduce_kinded.ensures.grows in
+    let one : Work = c.reduce_numbered.new.work in
+    let g1 : WorkGrows h old one = c.reduce_numbered.ensures.grows in
     let two : Work = c.rewrite_parts.new.work in
     let g2 : WorkGrows h one two = c.rewrite_parts.ensures.grows in
     (WorkGrows-trans h old one two g1 g2)

@@ -1,13 +1,9 @@
 use Rattle.std.proofs.Common.{◌∷◌, [], subst}
 use Rattle.std.specs.Prelude.{IfSome}
 use Rattle.nq_logic.specs.Words.{not_term}
-use Rattle.nq_bank.specs.Content.{term_at, terms_at}
+use Rattle.nq_bank.specs.Content.{term_at}
 use Rattle.nq_kernel.proofs.GrowingLemmas.{WorkGrows-trans}
 use Rattle.nq_lines.specs.Lines.{LineHasOnly}
-use Rattle.nq_lines.proofs.Among.{beside, none_among}
-use Rattle.nq_lines.proofs.LineLemmas.{only_more}
-use Rattle.nq_lines.proofs.TermLemmas.{same_term_grown}
-use Rattle.nq_reduce.specs.Rewriting.{denials}
 use Rattle.nq_reduce.proofs.RewritingLemmas.{can_grown, itself, rewritten_before, told_before}
 use Rattle.nq_reduce.proofs.IrreflexiveLemmas.{denied_alone}
 use Rattle.nq_reduce.proofs.irreflexive.refuted_alone.Goals as goal

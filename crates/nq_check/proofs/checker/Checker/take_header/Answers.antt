@@ -1,5 +1,4 @@
 use Rattle.std.proofs.Common.{refl, sym, ap, ◌∙◌, arith}
-use Rattle.std.specs.Option.{option_map}
 use Rattle.nq_logtext.specs.Views.{view}
 use Rattle.nq_log.specs.States.{State}
 use Rattle.nq_log.specs.Streams.{Between, Moves}
@@ -11,9 +10,8 @@ returns c =
     let old = c.args.self.now in
     let first = at_start old c.requires.ready c.requires.start in
     let few = c.requires.ready.few in
-    let read = sym c.in_ok-line.ensures ∙ ap (option_map view) c.in-Some.is in
     record {
-      is = header old c.args.bytes.now (view c.in-Some.line) c.requires.start read (sym c.is_header-header.ensures ∙ c.if-not-header.false)
+      is = header old (view c.args.line.now) c.requires.start (sym c.is_header-header.ensures ∙ c.if-not-header.false)
           ∙ ap (λ (s : State). Moves (Between 2 s)) (sym c.in_ok-self.ensures.state);
       step = record {
         ready = record { context = c.in_ok-self.ensures.whole; line = refl; few = omega (arith, few, first) };
