@@ -15,10 +15,10 @@ use Rattle.nq_types.specs.Shown.{AreAllowed, IsAllowed, IsOneAmong, IsRecognizer
 use Rattle.nq_lines.specs.Lines.{AreAmong}
 
 -- the same id denotes the same term
-same_id : (bank : Content) (t u : TermId) → nat_eq u.0 t.0 ≡ true → term_at bank t ≡ term_at bank u
+pub same_id : (bank : Content) (t u : TermId) → nat_eq u.0 t.0 ≡ true → term_at bank t ≡ term_at bank u
 same_id bank t u e = ap (λ n. term_at bank (record { 0 = n })) (sym (eqb-true u.0 t.0 e))
 
-among_ids : (bank : Content) (t : TermId) (ids : List TermId) → list_any (λ u. nat_eq u.0 t.0) ids ≡ true → IsAmong (term_at bank t) (terms_at bank ids)
+pub among_ids : (bank : Content) (t : TermId) (ids : List TermId) → list_any (λ u. nat_eq u.0 t.0) ids ≡ true → IsAmong (term_at bank t) (terms_at bank ids)
 among_ids bank t [] e = absurd cc
 among_ids bank t (u ∷ ids) e = by_test (nat_eq u.0 t.0) (list_any (λ u. nat_eq u.0 t.0) ids) (among_ids bank t ids) refl e
   where
@@ -49,7 +49,7 @@ denied_there u (t ∷ ts) (inl e) = inl (ap not_term e)
 denied_there u (t ∷ ts) (inr m) = inr (denied_there u ts m)
 
 -- the one argument of a call
-one_argument : (bank : Content) (f : Name) (t : Term) (ts : List Term) (found ids : List TermId) → t ≡ call f ts → terms_at bank found ≡ ts → (one : IsOneAmong found ids) → t ≡ call f (term_at bank one.one ∷ [])
+pub one_argument : (bank : Content) (f : Name) (t : Term) (ts : List Term) (found ids : List TermId) → t ≡ call f ts → terms_at bank found ≡ ts → (one : IsOneAmong found ids) → t ≡ call f (term_at bank one.one ∷ [])
 one_argument bank f t ts found ids is parts one = is ∙ ap (call f) (sym parts ∙ ap (terms_at bank) one.is)
 
 pub denial_told : (bank : Content) (f : Name) (t : Term) (ts : List Term) (found ids : List TermId) (denies one : Bool) → t ≡ call f ts → terms_at bank found ≡ ts → denies ≡ bytes_eq f (codes "NOT") → (one ≡ true → IsOneAmong found ids) → (denies && one) ≡ true → IsAmong t (denials (terms_at bank ids))
@@ -59,7 +59,7 @@ denial_told bank f t ts found ids denies one is parts named there e =
     let whole : t ≡ not_term (term_at bank told.one) = one_argument bank f t ts found ids is parts told ∙ ap (λ g. call g (term_at bank told.one ∷ [])) name in
     subst (λ u. IsAmong u (denials (terms_at bank ids))) (sym whole) (denied_there (term_at bank told.one) (terms_at bank ids) (among_ids bank told.one ids told.there))
 
-only_term : (bank : Content) (u t : TermId) → IsAmong (term_at bank u) (terms_at bank (t ∷ [])) → term_at bank u ≡ term_at bank t
+pub only_term : (bank : Content) (u t : TermId) → IsAmong (term_at bank u) (terms_at bank (t ∷ [])) → term_at bank u ≡ term_at bank t
 only_term bank u t (inl e) = e
 only_term bank u t (inr none) = absurd none
 

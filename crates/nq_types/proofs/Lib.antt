@@ -10,3 +10,5 @@ pub mod JudgeLemmas
 pub mod SetLemmas
 pub mod ValueLemmas
 pub mod TypeLemmas
+pub mod OutsideLemmas
+pub mod GuessLemmas

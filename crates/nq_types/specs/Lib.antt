@@ -3,3 +3,5 @@ pub mod Kinds
 pub mod Parts
 pub mod Finding
 pub mod Shown
+pub mod Guessing
+pub mod Outside

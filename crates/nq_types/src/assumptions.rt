@@ -5,32 +5,17 @@ ghost use Rattle.nq_history.specs.Events.{events_at};
 ghost use Rattle.nq_kernel.specs.Growing.{LineStands, WorkGrows, WorkStands};
 ghost use Rattle.nq_kernel.specs.Ready.{IsReady};
 ghost use Rattle.nq_lines.specs.Lines.{IsTermIn};
+ghost use Rattle.nq_types.specs.Guessing.{IsEqualIn};
 
-use crate::exact::exact_type;
-use crate::judging::{is_one_among, recognizer_place};
+use crate::exact::exact_line;
+use crate::judging::{is_one_among, recognizes};
 use crate::kinds::{Kind, kind_of};
-use crate::replacing::replaced;
+use crate::replacing::carried;
 use crate::truths::true_or_recognized;
 use nq_bank::{Node, TermId, ground};
 use nq_history::History;
 use nq_kernel::{Stop, Work};
-use nq_lines::{Sides, cut, equate, is_same, one_place, opposites, sides_of, symmetric};
-
-/// Is an assumption a recognizer of a term?
-fn recognizes(work: &Work, history: &History, a: TermId, t: TermId) -> bool
-    requires stands { WorkStands history.now work.now }
-    requires assumption { IsTermIn history.now work.now a }
-    requires room { length (shells_of (events_at work.now.bank history.now)) ≤ 61 }
-{
-    match work.bank.node(a) {
-        Node::App(f, _) => {
-            is_one_among(work.bank.args(a), &[t])
-                && recognizer_place(&work.bank, history, f).is_some()
-        }
-        Node::Num(_) => false,
-        Node::Var(_) => false,
-    }
-}
+use nq_lines::{Sides, cut, is_same, opposites, sides_of, symmetric};
 
 /// Is an assumption the NOT of a term?
 fn denies(work: &Work, history: &History, a: TermId, t: TermId) -> bool
@@ -75,7 +60,9 @@ fn tells(work: &Work, history: &History, a: TermId, t: TermId) -> bool
     requires assumption { IsTermIn history.now work.now a }
     requires room { length (shells_of (events_at work.now.bank history.now)) ≤ 61 }
 {
-    recognizes(work, history, a, t) || denies(work, history, a, t) || equates(work, history, a, t)
+    recognizes(&work.bank, history, a, t)
+        || denies(work, history, a, t)
+        || equates(work, history, a, t)
 }
 
 /// The first assumption that tells what a term is.
@@ -176,56 +163,8 @@ fn equation_assumed(
     }
 }
 
-/// Cuts away the equation of t and v.
-fn without_equation(
-    work: &mut Work,
-    history: &History,
-    t: TermId,
-    v: TermId,
-    equation: u64,
-    line: u64,
-) -> Result<Option<u64>, Stop>
-    requires stands { WorkStands history.now work.old }
-    requires left { IsTermIn history.now work.old t }
-    requires right { IsTermIn history.now work.old v }
-    requires equation { LineStands work.old equation }
-    requires line { LineStands work.old line }
-    ensures line { IfOk result (λ found. IfSome found (LineStands work.new)) }
-    ensures grows { WorkGrows history.now work.old work.new }
-    ensures out { result ≡ Err Stop.OutOfSteps → work.new.counter.used ≡ work.new.counter.limit }
-{
-    let e = equate(work, history, t, v)?;
-    let told = cut(work, history, equation, line, e)?;
-    Ok(Some(told))
-}
-
-/// Adds a line that says of t what another says of v, by a line that t equals v.
-fn transferred(
-    work: &mut Work,
-    history: &History,
-    t: TermId,
-    v: TermId,
-    equation: u64,
-    line: u64,
-) -> Result<Option<u64>, Stop>
-    requires stands { WorkStands history.now work.old }
-    requires left { IsTermIn history.now work.old t }
-    requires right { IsTermIn history.now work.old v }
-    requires equation { LineStands work.old equation }
-    requires line { LineStands work.old line }
-    ensures line { IfOk result (λ found. IfSome found (LineStands work.new)) }
-    ensures grows { WorkGrows history.now work.old work.new }
-    ensures out { result ≡ Err Stop.OutOfSteps → work.new.counter.used ≡ work.new.counter.limit }
-{
-    let path = one_place(work.bank.alloc(), 1)?;
-    match replaced(work, history, line, path, t)? {
-        Some(found) => without_equation(work, history, t, v, equation, found),
-        None => Ok(None),
-    }
-}
-
 /// Adds a line of what t is, where it is assumed that it equals v, from one of what v is.
-fn told_by_line(
+pub fn told_by_line(
     work: &mut Work,
     history: &History,
     a: TermId,
@@ -235,6 +174,7 @@ fn told_by_line(
     line: u64,
 ) -> Result<Option<u64>, Stop>
     requires stands { WorkStands history.now work.old }
+    requires room { length (shells_of (events_at work.old.bank history.now)) ≤ 61 }
     requires assumption { IsTermIn history.now work.old a }
     requires left { IsTermIn history.now work.old t }
     requires right { IsTermIn history.now work.old v }
@@ -244,7 +184,8 @@ fn told_by_line(
     ensures out { result ≡ Err Stop.OutOfSteps → work.new.counter.used ≡ work.new.counter.limit }
 {
     let equation = equation_assumed(work, history, a, turned, t, v)?;
-    transferred(work, history, t, v, equation, line)
+    let told = carried(work, history, t, v, equation, line)?;
+    Ok(Some(told))
 }
 
 /// Adds a line of what t is, where it is assumed that it equals v.
@@ -266,8 +207,8 @@ fn told_by_equal(
     ensures grows { WorkGrows history.now work.old work.new }
     ensures out { result ≡ Err Stop.OutOfSteps → work.new.counter.used ≡ work.new.counter.limit }
 {
-    match exact_type(work, history, v)? {
-        Some(found) => told_by_line(work, history, a, turned, t, v, found.1),
+    match exact_line(work, history, v)? {
+        Some(line) => told_by_line(work, history, a, turned, t, v, line),
         None => Ok(None),
     }
 }
@@ -321,4 +262,54 @@ pub fn told_by(
         Some(sides) => told_by_equation(work, history, a, sides, t),
         None => assumed_line(work, history, a),
     }
+}
+
+/// A term that another is assumed to equal.
+#[derive(Clone, Copy, Debug, PartialEq, Eq)]
+pub struct Equal {
+    /// The equation that is assumed.
+    pub assumption: TermId,
+    /// Whether the other term stands on the left.
+    pub turned: bool,
+    /// The other term.
+    pub other: TermId,
+}
+
+/// The other side of an assumption that is an equation of a term.
+fn other_side(work: &Work, history: &History, a: TermId, t: TermId) -> Option<Equal>
+    requires stands { WorkStands history.now work.now }
+    requires assumption { IsTermIn history.now work.now a }
+    ensures { IfSome result (IsEqualIn history.now work.now) }
+{
+    let sides = sides_of(work, history, a)?;
+    if is_same(sides.left, t) {
+        Some(Equal {
+            assumption: a,
+            turned: false,
+            other: sides.right,
+        })
+    } else if is_same(sides.right, t) {
+        Some(Equal {
+            assumption: a,
+            turned: true,
+            other: sides.left,
+        })
+    } else {
+        None
+    }
+}
+
+/// The first term that another is assumed to equal.
+pub fn equal_to(work: &Work, history: &History, assumed: &[TermId], t: TermId) -> Option<Equal>
+    requires stands { WorkStands history.now work.now }
+    requires assumed { All (IsTermIn history.now work.now) assumed.now }
+    ensures { IfSome result (IsEqualIn history.now work.now) }
+{
+    for a in assumed {
+        let equal = other_side(work, history, *a, t);
+        if equal.is_some() {
+            return equal;
+        }
+    }
+    None
 }

@@ -49,7 +49,12 @@ fn recognizer(truth: bool) -> Sym
 }
 
 /// Adds the line of the definition of the recognizer of T or of F, at a term.
-fn recognizer_opens(work: &mut Work, history: &History, truth: bool, t: TermId) -> Result<u64, Stop>
+pub fn recognizer_opens(
+    work: &mut Work,
+    history: &History,
+    truth: bool,
+    t: TermId,
+) -> Result<u64, Stop>
     requires stands { WorkStands history.now work.old }
     requires term { IsTermIn history.now work.old t }
     ensures line { IfOk result (λ n. LineHasOnly work.new n (equal_term (recognized_by (recognizer_of truth) (term_at work.old.bank t)) (equal_term (term_at work.old.bank t) (constant_of truth)) ∷ [])) }
@@ -62,7 +67,12 @@ fn recognizer_opens(work: &mut Work, history: &History, truth: bool, t: TermId) 
 }
 
 /// Makes the call of the recognizer of T or of F on a term.
-fn recognized(work: &mut Work, history: &History, truth: bool, t: TermId) -> Result<TermId, Stop>
+pub fn recognized(
+    work: &mut Work,
+    history: &History,
+    truth: bool,
+    t: TermId,
+) -> Result<TermId, Stop>
     requires stands { WorkStands history.now work.old }
     requires term { IsTermIn history.now work.old t }
     ensures call { IfOk result (λ u. IsIdOf work.new.bank u (recognized_by (recognizer_of truth) (term_at work.old.bank t))) }

@@ -1,9 +1,9 @@
 //! Types that stand in a term: T, F, bases and calls of constructors have one bit.
-ghost use Rattle.std.specs.Prelude.{◌≡◌, ◌≤◌, ◌<◌, ℕ, IfOk, MatchOption, Err, length};
+ghost use Rattle.std.specs.Prelude.{◌≡◌, ◌≤◌, ◌<◌, ℕ, IfOk, IfSome, MatchOption, Err, length};
 ghost use Rattle.nq_logic.specs.ShellPrinciple.{shells_of};
 ghost use Rattle.nq_bank.specs.Content.{term_at};
 ghost use Rattle.nq_history.specs.Events.{events_at};
-ghost use Rattle.nq_kernel.specs.Growing.{WorkGrows, WorkStands};
+ghost use Rattle.nq_kernel.specs.Growing.{LineStands, WorkGrows, WorkStands};
 ghost use Rattle.nq_kernel.specs.Ready.{IsReady};
 ghost use Rattle.nq_lines.specs.Lines.{IsTermIn};
 ghost use Rattle.nq_types.specs.Kinds.{HasKind, IsOfKind};
@@ -70,4 +70,20 @@ pub fn exact_type(
 {
     let kind = kind_of(&work.bank, history, t);
     type_of_kind(work, history, kind, t)
+}
+
+/// Adds the line of the kind of a term that is T, F, a base or a call of a constructor.
+pub fn exact_line(work: &mut Work, history: &History, t: TermId) -> Result<Option<u64>, Stop>
+    requires stands { WorkStands history.now work.old }
+    requires ready { IsReady (events_at work.old.bank history.now) }
+    requires room { length (shells_of (events_at work.old.bank history.now)) ≤ 61 }
+    requires term { IsTermIn history.now work.old t }
+    ensures line { IfOk result (λ found. IfSome found (LineStands work.new)) }
+    ensures grows { WorkGrows history.now work.old work.new }
+    ensures out { result ≡ Err Stop.OutOfSteps → work.new.counter.used ≡ work.new.counter.limit }
+{
+    match exact_type(work, history, t)? {
+        Some(found) => Ok(Some(found.1)),
+        None => Ok(None),
+    }
 }

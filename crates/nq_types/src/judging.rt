@@ -18,13 +18,14 @@ use nq_history::History;
 use nq_kernel::Work;
 
 /// Is a term among these?
-fn has_id(ids: &[TermId], t: TermId) -> bool
+pub fn has_id(ids: &[TermId], t: TermId) -> bool
     ensures { result ≡ list_any (λ u. nat_eq u.0 t.0) ids.now }
 {
     ids.iter().any(|u| u.0 == t.0)
 }
 
-fn is_both(left: bool, right: bool) -> bool
+/// Do both hold?
+pub fn is_both(left: bool, right: bool) -> bool
     ensures { result ≡ (left && right) }
 {
     left && right
@@ -42,7 +43,7 @@ pub fn is_one_among(found: &[TermId], ids: &[TermId]) -> bool
 }
 
 /// Is a literal the denial of one of these?
-fn is_denial(bank: &Bank, assumed: &[TermId], literal: TermId) -> bool
+pub fn is_denial(bank: &Bank, assumed: &[TermId], literal: TermId) -> bool
     requires { Stands bank.now literal }
     ensures { IsTrue result → IsAmong (term_at bank.now literal) (denials (terms_at bank.now assumed.now)) }
 {
@@ -93,6 +94,22 @@ pub fn recognizer_place(bank: &Bank, history: &History, f: Sym) -> Option<usize>
     }
 }
 
+/// Is a literal the call of a recognizer on this term?
+pub fn recognizes(bank: &Bank, history: &History, literal: TermId, t: TermId) -> bool
+    requires history { HistoryStands bank.now history.now }
+    requires literal { Stands bank.now literal }
+    requires room { length (shells_of (events_at bank.now history.now)) ≤ 61 }
+{
+    match bank.node(literal) {
+        Node::App(f, _) => {
+            let one = is_one_among(bank.args(literal), &[t]);
+            one && recognizer_place(bank, history, f).is_some()
+        }
+        Node::Num(_) => false,
+        Node::Var(_) => false,
+    }
+}
+
 /// Has a set the bit of a recognizer?
 fn has_recognizer(bank: &Bank, history: &History, set: TypeSet, f: Sym) -> bool
     requires history { HistoryStands bank.now history.now }
@@ -131,7 +148,8 @@ fn is_member(bank: &Bank, history: &History, set: TypeSet, t: TermId, literal: T
     }
 }
 
-fn is_either(left: bool, right: bool) -> bool
+/// Does either hold?
+pub fn is_either(left: bool, right: bool) -> bool
     ensures { result ≡ (left || right) }
 {
     left || right

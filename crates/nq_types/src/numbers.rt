@@ -6,6 +6,7 @@ ghost use Rattle.nq_lines.specs.Instances.{ArePairsIn};
 ghost use Rattle.nq_lines.specs.Lines.{IsTermIn};
 ghost use Rattle.nq_replay.specs.Uncounted.{GrowsUncounted};
 
+use crate::laws::{KindLaw, kind_table};
 use crate::rows::{argument, pairs_of_three};
 use crate::truths::truth_value;
 use nq_bank::{Bank, Sym, TermId, ground};
@@ -15,6 +16,7 @@ use nq_history::History;
 use nq_kernel::{Stop, Work};
 use nq_lines::{cut, true_or_false};
 use nq_number_laws::{InductiveLaw, PlainLaw, inductive_line, plain_line};
+use nq_replay::replay;
 use std::alloc::AllocError;
 
 /// A law of what the values of a function are.
@@ -26,6 +28,21 @@ enum Law {
     Inductive(InductiveLaw),
     /// Of remainders.
     Division(DivisionLaw),
+    /// Of MAX and NEGATIVE-GUTS.
+    Kind(KindLaw),
+}
+
+/// The law that the values of a function are numbers, which stands in no other crate.
+fn kind_law(bank: &Bank, f: Sym) -> Option<Law>
+    requires { IsNamed bank.now f }
+{
+    if bank.is_ground(f, ground::MAX) {
+        Some(Law::Kind(KindLaw::LargerIsNumber))
+    } else if bank.is_ground(f, ground::NEGATIVE_GUTS) {
+        Some(Law::Kind(KindLaw::GutsAreNumber))
+    } else {
+        None
+    }
 }
 
 /// The law that the values of a function are numbers, from axioms alone.
@@ -43,7 +60,7 @@ fn plain_law(bank: &Bank, f: Sym) -> Option<Law>
     } else if bank.is_ground(f, ground::FIX) {
         Some(Law::Plain(PlainLaw::FixIsNumber))
     } else {
-        None
+        kind_law(bank, f)
     }
 }
 
@@ -62,6 +79,16 @@ fn number_law(bank: &Bank, f: Sym) -> Option<Law>
     }
 }
 
+/// Adds the line of a law of MAX or NEGATIVE-GUTS, uncounted.
+fn kind_line(work: &mut Work, history: &History, law: KindLaw) -> Result<u64, AllocError>
+    requires stands { WorkStands history.now work.old }
+    ensures line { IfOk result (LineStands work.new) }
+    ensures grows { GrowsUncounted history.now work.old work.new }
+{
+    let table = kind_table(law);
+    replay(work, history, table, &[])
+}
+
 /// Adds the line of a law, uncounted.
 fn uncounted_line(work: &mut Work, history: &History, law: Law) -> Result<u64, AllocError>
     requires stands { WorkStands history.now work.old }
@@ -72,6 +99,7 @@ fn uncounted_line(work: &mut Work, history: &History, law: Law) -> Result<u64, A
         Law::Plain(plain) => plain_line(work, history, plain),
         Law::Inductive(inductive) => inductive_line(work, history, inductive),
         Law::Division(division) => division_line(work, history, division),
+        Law::Kind(kind) => kind_line(work, history, kind),
     }
 }
 

@@ -2,8 +2,8 @@
 ghost use Rattle.std.specs.Prelude.{◌≡◌, ◌≤◌, List, All, IfOk, IfSome, Err, length};
 ghost use Rattle.nq_logic.specs.Terms.{Term};
 ghost use Rattle.nq_logic.specs.ShellPrinciple.{shells_of};
-ghost use Rattle.nq_bank.specs.Content.{IsNamed, Stands, term_at, terms_at};
-ghost use Rattle.nq_history.specs.Events.{HistoryStands, events_at};
+ghost use Rattle.nq_bank.specs.Content.{term_at, terms_at};
+ghost use Rattle.nq_history.specs.Events.{events_at};
 ghost use Rattle.nq_kernel.specs.Growing.{LineStands, WorkGrows, WorkStands};
 ghost use Rattle.nq_kernel.specs.Ready.{IsReady};
 ghost use Rattle.nq_lines.specs.Lines.{IsTermIn};
@@ -11,80 +11,12 @@ ghost use Rattle.nq_types.specs.Shown.{IsExact, IsShown};
 
 use crate::exact::exact_type;
 use crate::guessing::guessed_line;
-use crate::judging::{has_type, recognizer_place};
-use crate::sets::{OTHER_PLACE, TypeSet, everything, has, with};
-use nq_bank::{Bank, Node, Sym, TermId, ground, ground_name};
+use crate::sets::{TypeSet, everything};
+use crate::showing::shown_type;
+use nq_bank::{TermId, ground, ground_name};
 use nq_history::History;
 use nq_kernel::{Stop, Work};
 use nq_lines::row_line;
-
-/// The set with the bit of a recognizer.
-fn with_recognizer(bank: &Bank, history: &History, set: TypeSet, f: Sym) -> TypeSet
-    requires history { HistoryStands bank.now history.now }
-    requires name { IsNamed bank.now f }
-    requires room { length (shells_of (events_at bank.now history.now)) ≤ 61 }
-{
-    match recognizer_place(bank, history, f) {
-        Some(place) => {
-            if place < 63 {
-                with(set, place as u32)
-            } else {
-                set
-            }
-        }
-        None => set,
-    }
-}
-
-/// The set with the bit of a literal, where that is a call of a recognizer.
-fn with_literal(bank: &Bank, history: &History, set: TypeSet, literal: TermId) -> TypeSet
-    requires history { HistoryStands bank.now history.now }
-    requires literal { Stands bank.now literal }
-    requires room { length (shells_of (events_at bank.now history.now)) ≤ 61 }
-{
-    match bank.node(literal) {
-        Node::App(f, _) => with_recognizer(bank, history, set, f),
-        Node::Num(_) => set,
-        Node::Var(_) => set,
-    }
-}
-
-/// The bits of the recognizers of which these literals are calls.
-fn set_told(bank: &Bank, history: &History, literals: &[TermId]) -> TypeSet
-    requires history { HistoryStands bank.now history.now }
-    requires literals { All (Stands bank.now) literals.now }
-    requires room { length (shells_of (events_at bank.now history.now)) ≤ 61 }
-{
-    let mut set = TypeSet(0);
-    for literal in literals {
-        set = with_literal(bank, history, set, *literal);
-    }
-    set
-}
-
-/// The type that a line shows, where it has only recognizers of the term and denials of what is assumed.
-fn shown_type(
-    work: &Work,
-    history: &History,
-    assumed: &[TermId],
-    t: TermId,
-    line: u64,
-) -> Option<(TypeSet, u64)>
-    requires stands { WorkStands history.now work.now }
-    requires line { LineStands work.now line }
-    requires room { length (shells_of (events_at work.now.bank history.now)) ≤ 61 }
-    ensures { IfSome result (IsShown (events_at work.now.bank history.now) work.now (terms_at work.now.bank assumed.now) (term_at work.now.bank t)) }
-{
-    let set = set_told(&work.bank, history, work.log.clause_over(&work.bank, line));
-    if has(set, OTHER_PLACE) {
-        return None;
-    }
-    if has_type(work, history, set, assumed, t, line) {
-        Some((set, line))
-    } else {
-        None
-    }
-}
 
 /// The type of any term, with the line of T.
 fn any_type(work: &mut Work, history: &History) -> Result<(TypeSet, u64), Stop>

@@ -2,7 +2,7 @@ use Rattle.nq_bank.specs.Content.{term_at, terms_at}
 use Rattle.std.proofs.Common.{◌∙◌, sym}
 use Rattle.nq_history.specs.Events.{events_at}
 use Rattle.nq_types.proofs.SetLemmas.{members_shown}
-use Rattle.nq_types.proofs.types.shown_type.Goals as goal
+use Rattle.nq_types.proofs.showing.inside_type.Goals as goal
 
 pub returns-then-has_type : goal.returns-then-has_type
 returns-then-has_type c =
