@@ -3,11 +3,11 @@ that say that each table is allowed. They are searched for here.
 
     python3 tools/facts.py crates/nq_number_laws
 """
-import os, sys
+import sys
 sys.dont_write_bytecode = True
 from replays import A, L, R, ZERO, found, named, no, table
 from balances import eq, read, show, subst
-from printing import cone
+from printing import answers, cone, writer
 
 ENDS = [A("TRUE"), A("FALSE")]
 NUMBERS = [A("ADD1", 2), A("ADD1", 3)] + ENDS
@@ -241,27 +241,12 @@ pub fn inductive_table(law: InductiveLaw) -> Law
 %(inductive_arms)s    }
 }
 """
-ANSWERS = """use Rattle.std.proofs.Common.{refl}
-use Rattle.nq_logic.specs.Ground.{symbols_of}
-use Rattle.nq_logic.specs.Numerals.{number_of}
-use Rattle.nq_logic.specs.Sizes.{tree_depth}
-use Rattle.nq_replay.specs.Replaying.{law_line, law_clause}
-use Rattle.nq_number_laws.proofs.laws.%s_table.Goals as goal
-"""
-ANSWER = """
-pub returns-in-%(variant)s : goal.returns-in-%(variant)s
-unfolding law_line law_clause symbols_of number_of tree_depth
-returns-in-%(variant)s c = refl
-"""
 
 def main(crate):
-    def put(path, text):
-        path = os.path.join(crate, path)
-        os.makedirs(os.path.dirname(path), exist_ok=True)
-        open(path, "w").write(text)
+    put = writer(crate)
     falls = named["size_falls"]
     parts = dict(uses="", plain="", inductive="", plain_arms="", inductive_arms="")
-    answers, modules = {kind: ANSWERS % kind for kind in ("plain", "inductive")}, []
+    variants, modules = dict(plain=[], inductive=[]), []
     for name, line in (law for topic in TOPICS for law in topic()):
         kind = "inductive" if falls in cone(L, line)[0] else "plain"
         variant = "".join(word.capitalize() for word in name.split("_"))
@@ -269,13 +254,13 @@ def main(crate):
         put("src/tables/%s.rt" % name, table(name, line, [falls] if kind == "inductive" else [], "nq_replay"))
         parts[kind] += "    /// %s.\n    %s,\n" % (clause, variant)
         parts[kind + "_arms"] += "        %sLaw::%s => %s,\n" % (kind.capitalize(), variant, name.upper())
-        answers[kind] += ANSWER % dict(variant=variant)
+        variants[kind].append(variant)
         modules.append(name)
     parts["uses"] = "".join("use crate::tables::%s::%s;\n" % (m, m.upper()) for m in sorted(modules))
     put("src/laws.rt", LAWS % parts)
     put("src/tables.rt", "//! The tables of laws. They are printed.\n\n" + "".join("pub mod %s;\n" % m for m in sorted(modules)))
-    for kind, text in answers.items():
-        put("proofs/laws/%s_table/Answers.antt" % kind, text)
+    for kind, those in variants.items():
+        put("proofs/laws/%s_table/Answers.antt" % kind, answers("nq_number_laws", kind + "_table", those))
 
 if __name__ == "__main__":
     main(sys.argv[1])

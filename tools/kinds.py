@@ -3,9 +3,10 @@ the answers that say that each table is allowed. They are searched for here.
 
     python3 tools/kinds.py crates/nq_types
 """
-import os, sys
+import sys
 sys.dont_write_bytecode = True
 from facts import A, ENDS, L, R, cases, found, named, no, place, show
+from printing import answers, writer
 from replays import table
 
 OWN = {"MAX", "NEGATIVEP"}
@@ -49,37 +50,22 @@ pub fn kind_table(law: KindLaw) -> Law
 %(arms)s    }
 }
 """
-ANSWERS = """use Rattle.std.proofs.Common.{refl}
-use Rattle.nq_logic.specs.Ground.{symbols_of}
-use Rattle.nq_logic.specs.Numerals.{number_of}
-use Rattle.nq_logic.specs.Sizes.{tree_depth}
-use Rattle.nq_replay.specs.Replaying.{law_line, law_clause}
-use Rattle.nq_types.proofs.laws.kind_table.Goals as goal
-"""
-ANSWER = """
-pub returns-in-%(variant)s : goal.returns-in-%(variant)s
-unfolding law_line law_clause symbols_of number_of tree_depth
-returns-in-%(variant)s c = refl
-"""
 
 def main(crate):
-    def put(path, text):
-        path = os.path.join(crate, path)
-        os.makedirs(os.path.dirname(path), exist_ok=True)
-        open(path, "w").write(text)
-    parts, answers = dict(uses="", variants="", arms=""), ANSWERS
+    put = writer(crate)
+    parts, variants = dict(uses="", variants="", arms=""), []
     for name, find in FOUND:
         line = find()
         variant = "".join(word.capitalize() for word in name.split("_"))
         put("src/tables/%s.rt" % name, table(name, line, [], "nq_replay", OWN))
         parts["variants"] += "    /// %s.\n    %s,\n" % (", ".join("`%s`" % show(t) for t in L.c(line)), variant)
         parts["arms"] += "        KindLaw::%s => %s,\n" % (variant, name.upper())
-        answers += ANSWER % dict(variant=variant)
+        variants.append(variant)
     names = sorted(name for name, find in FOUND)
     parts["uses"] = "".join("use crate::tables::%s::%s;\n" % (m, m.upper()) for m in names)
     put("src/laws.rt", LAWS % parts)
     put("src/tables.rt", "//! The tables of laws. They are printed.\n\n" + "".join("pub mod %s;\n" % m for m in names))
-    put("proofs/laws/kind_table/Answers.antt", answers)
+    put("proofs/laws/kind_table/Answers.antt", answers("nq_types", "kind_table", variants))
 
 if __name__ == "__main__":
     main(sys.argv[1])

@@ -1,5 +1,5 @@
 """Prints the cone of a line of a log as antt data."""
-import re
+import os, re
 from logs import *
 
 def cited(rule):
@@ -273,3 +273,28 @@ def emit_library(files):
 
 def emit_modules(files):
     return "".join("pub mod %s\n" % f for f in files)
+
+ANSWERS = """use Rattle.std.proofs.Common.{refl}
+use Rattle.nq_logic.specs.Ground.{symbols_of}
+use Rattle.nq_logic.specs.Numerals.{number_of}
+use Rattle.nq_logic.specs.Sizes.{tree_depth}
+use Rattle.nq_replay.specs.Replaying.{law_line, law_clause}
+use Rattle.%(crate)s.proofs.laws.%(function)s.Goals as goal
+"""
+ANSWER = """
+pub returns-in-%(variant)s : goal.returns-in-%(variant)s
+unfolding law_line law_clause symbols_of number_of tree_depth
+returns-in-%(variant)s c = refl
+"""
+
+def answers(crate, function, variants):
+    """the answers that say that each table a function gives is allowed"""
+    return ANSWERS % dict(crate=crate, function=function) + "".join(ANSWER % dict(variant=v) for v in variants)
+
+def writer(crate):
+    """what writes a text to a file of a crate"""
+    def put(path, text):
+        path = os.path.join(crate, path)
+        os.makedirs(os.path.dirname(path), exist_ok=True)
+        open(path, "w").write(text)
+    return put
