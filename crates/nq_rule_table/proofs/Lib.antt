@@ -1,0 +1,5 @@
+mod PartLemmas
+mod ListLemmas
+mod RuleLemmas
+mod EnabledLemmas
+pub mod TableLemmas

@@ -1,0 +1,5 @@
+-- Arguments stand before the call.
+use Rattle.nq_rule_table.proofs.parts.+put_parts.Given as goal
+
+abbrev pub decreases-put_parts : goal.decreases-put_parts
+decreases-put_parts l = l.t.0
