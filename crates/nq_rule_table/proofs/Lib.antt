@@ -1,4 +1,5 @@
 mod PartLemmas
+mod InstanceLemmas
 mod ListLemmas
 mod RuleLemmas
 mod EnabledLemmas

@@ -1,10 +1,10 @@
 -- The rules of entries: of one more, and of the first ones.
-use Rattle.std.proofs.Common.{◌≡◌, ◌<◌, ◌≤◌, ◌+◌, ◌-◌, ℕ, zero, suc, Bool, true, false, List, [], ◌∷◌, ◌++◌, length, take, drop, get_or, drop-cons, map, append-nil, append_assoc, refl, sym, ap, ◌∙◌, arith}
-use Rattle.std.specs.Prelude.{nat_eq, nat_lt, if◌then◌else◌}
+use Rattle.std.proofs.Common.{◌≡◌, ◌<◌, ◌+◌, ◌-◌, ℕ, suc, Bool, true, false, List, [], ◌∷◌, ◌++◌, length, take, drop, get_or, drop-cons, append-nil, append_assoc, refl, sym, ap, ◌∙◌, arith}
+use Rattle.std.specs.Prelude.{nat_lt, if◌then◌else◌}
 use Rattle.std.specs.List.{filter}
-use Rattle.std.proofs.lemmas.List.{drop_all, take_all}
+use Rattle.std.proofs.lemmas.List.{take_all}
 use Rattle.std.proofs.lemmas.List.Elements.{filter-append}
-use Rattle.std.proofs.lemmas.Bool.{ltb-true, ltb-false, lt-ltb, le-ltb}
+use Rattle.std.proofs.lemmas.Bool.{ltb-true, ltb-false, le-ltb}
 use Rattle.nq_logic.specs.Terms.{Term}
 use Rattle.nq_logic.specs.RuleShapes.{and_parts, rule_parts}
 use Rattle.nq_bank.specs.declared.node.Sym.{Sym}
@@ -15,9 +15,8 @@ use Rattle.nq_history.specs.declared.entry.EntryKind.{EntryKind}
 use Rattle.nq_history.specs.declared.entry.EntryKind.TheVariants as kind
 use Rattle.nq_history.specs.declared.entry.Entry.{Entry}
 use Rattle.nq_rule_table.specs.declared.rule.RuleRef.{RuleRef}
-use Rattle.nq_rule_table.specs.declared.rule.Toggled.{Toggled}
-use Rattle.nq_rule_table.specs.Rules.{is_about, says_true, rule_if, part_rule, parts_rules, has_rewrite, term_rules, kind_rules, entry_rules, toggled_at, kind_toggles, entry_toggles}
-use Rattle.nq_rule_table.specs.Tables.{Learnt, entries_of, rules_about, toggles_from, is_early, is_early_toggle}
+use Rattle.nq_rule_table.specs.Rules.{is_about, rule_if, part_rule, parts_rules, has_rewrite, term_rules, kind_rules, entry_rules, toggled_at, kind_toggles, entry_toggles}
+use Rattle.nq_rule_table.specs.Tables.{Learnt, rules_about, toggles_from, is_early, is_early_toggle}
 
 -- the rules of one more entry
 pub rules_about-push : (f : Sym) (place : ℕ) (ls : List Learnt) (l : Learnt) → rules_about f place (ls ++ l ∷ []) ≡ rules_about f place ls ++ entry_rules l.bank f (place + length ls) l.entry

@@ -1,8 +1,8 @@
 -- What a table has learnt: nothing of the ground history, one more entry, and the first ones.
-use Rattle.std.proofs.Common.{◌≡◌, ◌<◌, ◌≤◌, ◌+◌, ◌-◌, ℕ, zero, suc, Bool, true, false, ◌&&◌, List, [], ◌∷◌, ◌++◌, length, take, drop, map, get_or, refl, sym, ap, ◌∙◌, subst, append-nil, arith}
-use Rattle.std.specs.Prelude.{All, if◌then◌else◌}
+use Rattle.std.proofs.Common.{◌≡◌, ◌<◌, ◌≤◌, ◌+◌, ◌-◌, ℕ, suc, Bool, true, false, ◌&&◌, List, [], ◌∷◌, ◌++◌, length, take, get_or, refl, sym, ap, ◌∙◌, subst, arith}
+use Rattle.std.specs.Prelude.{All}
 use Rattle.std.specs.List.{filter}
-use Rattle.std.proofs.lemmas.List.{get_or_past, take-map, take_all, take_more, map_push, length-map, length-take-le, length-append}
+use Rattle.std.proofs.lemmas.List.{get_or_past, take-map, take_all, take_more, map_push, length-map, length-take-le}
 use Rattle.std.proofs.lemmas.List.Elements.{All-take, All-map, All-get_or}
 use Rattle.std.proofs.lemmas.Bool.{and_parts}
 use Rattle.nq_logic.specs.Histories.{Event, AddShell, Declaration, Defines, Axiom, Lemma, Toggle}

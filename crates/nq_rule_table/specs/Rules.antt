@@ -1,8 +1,9 @@
 -- The rules of class REWRITE that an entry has, by the functions of their left sides.
 use Rattle.std.specs.Prelude.{ℕ, suc, nat_eq, nat_lt, Bool, true, false, ◌&&◌, ◌||◌, not, if◌then◌else◌, bytes_eq, codes, List, [], ◌∷◌, ◌++◌, length, Option, None, Some}
-use Rattle.nq_logic.specs.Terms.{Name, Term, Variable, Function, Applied}
+use Rattle.nq_logic.specs.Terms.{Name, Term, Variable, Function, Applied, Substitution, substituted}
 use Rattle.nq_logic.specs.Values.{is_value}
 use Rattle.nq_logic.specs.RuleShapes.{and_parts, rule_parts, left_side, is_function_named}
+use Rattle.nq_proof.specs.Clauses.{same_term}
 use Rattle.nq_bank.specs.declared.node.Sym.{Sym}
 use Rattle.nq_bank.specs.declared.node.TermId.{TermId}
 use Rattle.nq_bank.specs.Content.{Content, text_at, term_at}
@@ -45,6 +46,26 @@ says_true (Applied (Variable x) u) = true
 says_true (Applied (Function f) u) = not (bytes_eq f (codes "NOT"))
 says_true (Applied (Applied f t) u) = not (is_function_named (codes "EQUAL") f)
 
+-- what stands in r at the places of the variables of l
+abbrev pub values_within : Term → Term → Substitution
+values_within (Variable x) r = (x, r) ∷ []
+values_within (Function f) r = []
+values_within (Applied a b) (Variable y) = []
+values_within (Applied a b) (Function g) = []
+values_within (Applied a b) (Applied c d) = values_within a c ++ values_within b d
+
+-- whether r is an instance of l: l with what stands in r at the places of its variables
+abbrev pub is_instance : Term → Term → Bool
+is_instance l r = same_term (substituted (values_within l r) l) r
+
+-- whether a part is an equation whose right side is an instance of its left side, as in commutativity
+abbrev pub permutes : Term → Bool
+permutes (Variable x) = false
+permutes (Function f) = false
+permutes (Applied (Variable x) u) = false
+permutes (Applied (Function f) u) = false
+permutes (Applied (Applied f l) r) = is_function_named (codes "EQUAL") f && is_instance l r
+
 -- the rule, where there is one
 abbrev pub rule_if : Bool → RuleRef → List RuleRef
 rule_if true r = r ∷ []
@@ -52,7 +73,7 @@ rule_if false r = []
 
 -- the rule that a part of this number is
 abbrev pub part_rule : Sym → ℕ → ℕ → Term → RuleRef
-part_rule event place number part = record { event = event; part = number; place = place; truth = says_true part }
+part_rule event place number part = record { event = event; part = number; place = place; truth = says_true part; permutes = permutes part }
 
 -- the rules about f that the parts of a conclusion are, numbered from a number on, the last part first
 abbrev pub parts_rules : Content → Sym → Sym → ℕ → ℕ → List Term → List RuleRef

@@ -4,9 +4,10 @@ ghost use Rattle.nq_logic.specs.RuleShapes.{and_parts, rule_parts};
 ghost use Rattle.nq_bank.specs.declared.node.Sym.{Sym};
 ghost use Rattle.nq_bank.specs.Content.{Stands, IsNamed, term_at, terms_at};
 ghost use Rattle.nq_rule_table.specs.Rules as rule;
-ghost use Rattle.nq_rule_table.specs.Rules.{is_about, is_it, part_limit};
+ghost use Rattle.nq_rule_table.specs.Rules.{is_about, is_it, part_limit, permutes};
 
 use nq_bank::{Bank, Node, Sym, TermId, ground};
+use nq_clause::match_term;
 use nq_rules::{conclusion_of, left_side, one_of, two_of};
 use std::alloc::AllocError;
 
@@ -77,5 +78,30 @@ pub fn says_true(bank: &Bank, part: TermId) -> bool
             Some(_) => false,
             None => true,
         },
+    }
+}
+
+/// Is one term an instance of another?
+fn is_instance(bank: &Bank, pattern: TermId, t: TermId) -> Result<bool, AllocError>
+    requires pattern { Stands bank.now pattern }
+    requires term { Stands bank.now t }
+    ensures { IfOk result (λ b. b ≡ rule.is_instance (term_at bank.now pattern) (term_at bank.now t)) }
+{
+    let mut bindings = Vec::new(bank.alloc());
+    let fits = match_term(bank, pattern, t, &mut bindings)?;
+    Ok(fits)
+}
+
+/// Is a part an equation whose right side is an instance of its left side?
+pub fn is_permuting(bank: &Bank, part: TermId) -> Result<bool, AllocError>
+    requires { Stands bank.now part }
+    ensures { IfOk result (λ b. b ≡ permutes (term_at bank.now part)) }
+{
+    match two_of(bank, ground::EQUAL, part) {
+        Some((left, right)) => {
+            let fits = is_instance(bank, left, right)?;
+            Ok(fits)
+        }
+        None => Ok(false),
     }
 }

@@ -8,7 +8,7 @@ ghost use Rattle.nq_rule_table.specs.Rules.{is_about, part_limit, part_rule, par
 ghost use Rattle.nq_rule_table.specs.Tables.{is_early, list_at};
 
 use crate::lists::put_rule;
-use crate::parts::{function_of, parts_of, says_true};
+use crate::parts::{function_of, is_permuting, parts_of, says_true};
 use crate::rule::RuleRef;
 use nq_bank::{Bank, Sym, TermId};
 use nq_history::Class;
@@ -44,11 +44,13 @@ fn put_part(
     match function_of(bank, part) {
         Some(f) => {
             let truth = says_true(bank, part);
+            let permutes = is_permuting(bank, part)?;
             let rule = RuleRef {
                 event,
                 part: number,
                 place,
                 truth,
+                permutes,
             };
             put_rule(bank.alloc(), lists, f, rule)?;
             Ok(())

@@ -13,6 +13,8 @@ pub struct RuleRef {
     pub place: u64,
     /// Whether the rule says of its left side that it is true, and not what it equals or that it is false.
     pub truth: bool,
+    /// Whether what the left side equals is an instance of it, as in commutativity.
+    pub permutes: bool,
 }
 
 /// A name that an event disabled or enabled.

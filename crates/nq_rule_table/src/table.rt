@@ -88,7 +88,8 @@ fn keep_toggles(toggles: &mut Vec<Toggled>, kept: u64)
 impl Rules {
     /// The table that has learnt the entries of the ground history. None of them has a rule.
     pub fn new(alloc: Global) -> Rules
-        ensures { (bank : Content) (entries : List Entry) → HistoryStands bank entries → HasLearnt bank result (take ground_length entries) }
+        ensures over { (bank : Content) (entries : List Entry) → HistoryStands bank entries → HasLearnt bank result (take ground_length entries) }
+        ensures taught { (bank : Content) (entries : List Entry) → HistoryStands bank entries → WasTaught result (take ground_length entries) }
     {
         Rules {
             lists: Vec::new(alloc),

@@ -1,6 +1,6 @@
 use Rattle.std.proofs.Common.{◌-◌, ap}
 use Rattle.nq_rule_table.specs.Tables.{list_at}
-use Rattle.nq_rule_table.proofs.TableLemmas.{last_learnt, last_taught, last_stands, last_within, none_learnt, same_taught}
+use Rattle.nq_rule_table.proofs.TableLemmas.{last_learnt, last_taught, last_stands, none_learnt, same_taught}
 use Rattle.nq_rule_table.proofs.table.Rules.learn.Goals as goal
 
 pub put_entry-requires : goal.put_entry-requires

@@ -1,4 +1,4 @@
-use Rattle.std.proofs.Common.{◌≡◌, ◌<◌, get_or, length, rules}
+use Rattle.std.proofs.Common.{◌<◌, length, rules}
 use Rattle.nq_rule_table.proofs.TableLemmas.{rules_more, toggles_more, whole_learnt}
 use Rattle.nq_rule_table.proofs.table.Rules.of.Goals as goal
 
