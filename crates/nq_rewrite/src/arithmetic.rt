@@ -10,7 +10,7 @@ ghost use Rattle.nq_instances.specs.Parts.{IsLine};
 ghost use Rattle.nq_lines.specs.Lines.{IsTermIn, LineHasOnly};
 ghost use Rattle.nq_reduce.specs.Rewriting.{CanRewrite, IsKnown, denials};
 
-use crate::search::{NUMBERS, Search, mark_of, mixed};
+use crate::search::{NUMBERS, Search, mixed};
 use crate::terms::{is_call_of, shares_variable, variables_of};
 use crate::way::Way;
 use nq_arithmetic::arithmetic_line;
@@ -276,8 +276,8 @@ fn is_reflexive(bank: &Bank, t: TermId) -> bool
     }
 }
 
-/// Is arithmetic asked about a test?
-fn is_asked(
+/// May arithmetic be asked about a test?
+fn is_askable(
     work: &Work,
     history: &History,
     way: &Way<'_>,
@@ -292,7 +292,6 @@ fn is_asked(
     }
     is_call_of(&work.bank, ground::LESSP, t)
         && (is_reflexive(&work.bank, t) || has_comparison(work, history, assumed, t))
-        && !search.is_settled(mixed(NUMBERS, mark_of(&work.bank, assumed, t)))
 }
 
 /// What linear arithmetic knows of a test, if it is asked. That it knows nothing is remembered.
@@ -309,10 +308,13 @@ pub fn known_by_arithmetic(
     ensures grows { WorkGrows history.now work.old work.new }
     ensures out { result ≡ Err Stop.OutOfSteps → work.new.counter.used ≡ work.new.counter.limit }
 {
-    if !is_asked(work, history, way, search, assumed, t) {
+    if !is_askable(work, history, way, search, assumed, t) {
         return Ok(None);
     }
-    let mark = mixed(NUMBERS, mark_of(&work.bank, assumed, t));
+    let mark = mixed(NUMBERS, search.mark_of(&work.bank, assumed, t));
+    if search.is_settled(mark) {
+        return Ok(None);
+    }
     search.ask();
     search.settle(mark)?;
     told_by_arithmetic(work, history, way.hints, assumed, t)

@@ -16,10 +16,10 @@ use crate::rules::takes;
 use crate::terms::variables_of;
 use nq_bank::{Sym, TermId, ground};
 use nq_history::History;
-use nq_instances::{rule_instance, two_in};
+use nq_instances::two_in;
 use nq_kernel::{Stop, Work};
 use nq_lines::{Fact, equate, event_fact, matched_fact};
-use nq_rules::left_side;
+use nq_rules::{is_call, left_side};
 
 /// The left side of a rule, and a hypothesis with a variable that it has not.
 #[derive(Clone, Copy)]
@@ -149,6 +149,94 @@ fn bound_instance(
     Ok(None)
 }
 
+/// The left side that takes a term to itself, of the parts of a rule's conclusion. A part that is an implication has a conclusion of
+/// its own.
+fn left_for(work: &Work, history: &History, rule: TermId, t: TermId) -> Result<Option<TermId>, Stop>
+    requires stands { WorkStands history.now work.now }
+    requires rule { IsTermIn history.now work.now rule }
+    requires term { IsTermIn history.now work.now t }
+    ensures left { IfOk result (λ found. IfSome found (IsTermIn history.now work.now)) }
+    ensures memory { result ≡ Err Stop.OutOfSteps → ⊥ }
+{
+    if let Some(sides) = two_in(work, history, ground::IMPLIES, rule) {
+        return left_for(work, history, sides.right, t);
+    }
+    match two_in(work, history, ground::AND, rule) {
+        Some(sides) => match left_for(work, history, sides.left, t)? {
+            Some(left) => Ok(Some(left)),
+            None => left_for(work, history, sides.right, t),
+        },
+        None => left_of_part(work, history, rule, t),
+    }
+}
+
+/// The left side of one part, where it is a call that takes a term to itself.
+fn left_of_part(
+    work: &Work,
+    history: &History,
+    part: TermId,
+    t: TermId,
+) -> Result<Option<TermId>, Stop>
+    requires stands { WorkStands history.now work.now }
+    requires part { IsTermIn history.now work.now part }
+    requires term { IsTermIn history.now work.now t }
+    ensures left { IfOk result (λ found. IfSome found (IsTermIn history.now work.now)) }
+    ensures memory { result ≡ Err Stop.OutOfSteps → ⊥ }
+{
+    let left = left_side(&work.bank, part);
+    if is_call(&work.bank, left) && takes(&work.bank, left, t)? {
+        Ok(Some(left))
+    } else {
+        Ok(None)
+    }
+}
+
+/// The instance of a rule that takes a left side of it to a term.
+fn bound_whole(
+    work: &mut Work,
+    history: &History,
+    name: Sym,
+    rule: TermId,
+    t: TermId,
+) -> Result<Option<Fact>, Stop>
+    requires stands { WorkStands history.now work.old }
+    requires ready { HasOwnTerms (events_at work.old.bank history.now) }
+    requires name { IsNamed work.old.bank name }
+    requires rule { IsTermIn history.now work.old rule }
+    requires term { IsTermIn history.now work.old t }
+    ensures fact { IfOk result (λ found. IfSome found (IsFact history.now work.new)) }
+    ensures grows { WorkGrows history.now work.old work.new }
+    ensures out { result ≡ Err Stop.OutOfSteps → work.new.counter.used ≡ work.new.counter.limit }
+{
+    match left_for(work, history, rule, t)? {
+        Some(left) => left_instance(work, history, name, left, t),
+        None => Ok(None),
+    }
+}
+
+/// The same, where the left side is known.
+fn left_instance(
+    work: &mut Work,
+    history: &History,
+    name: Sym,
+    left: TermId,
+    t: TermId,
+) -> Result<Option<Fact>, Stop>
+    requires stands { WorkStands history.now work.old }
+    requires ready { HasOwnTerms (events_at work.old.bank history.now) }
+    requires name { IsNamed work.old.bank name }
+    requires left { IsTermIn history.now work.old left }
+    requires term { IsTermIn history.now work.old t }
+    ensures fact { IfOk result (λ found. IfSome found (IsFact history.now work.new)) }
+    ensures grows { WorkGrows history.now work.old work.new }
+    ensures out { result ≡ Err Stop.OutOfSteps → work.new.counter.used ≡ work.new.counter.limit }
+{
+    match event_fact(work, history, name)? {
+        Some(fact) => matched_fact(work, history, fact, left, t),
+        None => Ok(None),
+    }
+}
+
 /// The instance of an axiom or lemma whose term is known.
 fn instance_of(
     work: &mut Work,
@@ -167,7 +255,7 @@ fn instance_of(
 {
     match unbound_in(work, history, rule) {
         Some(unbound) => bound_instance(work, history, assumed, name, t, unbound),
-        None => rule_instance(work, history, name, t),
+        None => bound_whole(work, history, name, rule, t),
     }
 }
 

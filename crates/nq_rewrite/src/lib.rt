@@ -32,6 +32,9 @@ mod differences;
 // rules with variables that their left sides do not bind
 mod binding;
 
+// which part of a conclusion serves
+mod parts;
+
 // equations of truth values
 mod comparing;
 
@@ -57,4 +60,5 @@ mod entrance;
 pub use entrance::{rewrite, rewrite_by, rewritten};
 pub use kinds::{kind_fact, kind_line, known_recognizer, named_function, one_call};
 pub use rules::{Rules, make_rules};
+pub use telling::is_constructor;
 pub use told_kinds::told_kind;

@@ -8,6 +8,7 @@ ghost use Rattle.nq_reduce.specs.Held.{IsHeld};
 ghost use Rattle.nq_reduce.specs.Rewriting.{CanRewrite};
 
 use crate::binding::rule_at_hand;
+use crate::parts::part_for;
 use crate::rewriting::rewrite_term;
 use crate::rules::{Head, is_allowed};
 use crate::search::Search;
@@ -19,7 +20,7 @@ use nq_history::History;
 use nq_instances::two_in;
 use nq_kernel::{Stop, Work};
 use nq_lines::Fact;
-use nq_reduce::{conclusion_for, part_for};
+use nq_reduce::conclusion_for;
 
 /// Tries the rules on a term, the newest first: those that say that a term is true, or those that say what it equals.
 #[cycle(rewriting)]
@@ -155,7 +156,17 @@ fn try_instance(
     ensures out { result ≡ Err Stop.OutOfSteps → work.new.counter.used ≡ work.new.counter.limit }
 {
     if is_allowed(&work.bank, head, t, fact.term) {
-        reduce(work, history, way, search, assumed, depth + 1, t, fact)
+        reduce(
+            work,
+            history,
+            way,
+            search,
+            assumed,
+            depth + 1,
+            t,
+            head.truth,
+            fact,
+        )
     } else {
         Ok(None)
     }
@@ -171,6 +182,7 @@ fn reduce(
     assumed: &[TermId],
     depth: u32,
     t: TermId,
+    truth: bool,
     fact: Fact,
 ) -> Result<Option<Fact>, Stop>
     requires can { CanRewrite history.now work.old assumed.now t }
@@ -181,7 +193,7 @@ fn reduce(
 {
     let _ = work.counter.used();
     work.enter(depth)?;
-    reduce_entered(work, history, way, search, assumed, depth, t, fact)
+    reduce_entered(work, history, way, search, assumed, depth, t, truth, fact)
 }
 
 /// The same, after the entry was counted.
@@ -194,6 +206,7 @@ fn reduce_entered(
     assumed: &[TermId],
     depth: u32,
     t: TermId,
+    truth: bool,
     fact: Fact,
 ) -> Result<Option<Fact>, Stop>
     requires depth { depth ≤ depth_limit }
@@ -205,9 +218,9 @@ fn reduce_entered(
 {
     match two_in(work, history, ground::IMPLIES, fact.term) {
         Some(sides) => reduce_implication(
-            work, history, way, search, assumed, depth, t, fact, sides.left,
+            work, history, way, search, assumed, depth, t, truth, fact, sides.left,
         ),
-        None => reduce_conclusion(work, history, way, search, assumed, depth, t, fact),
+        None => reduce_conclusion(work, history, way, search, assumed, depth, t, truth, fact),
     }
 }
 
@@ -221,6 +234,7 @@ fn reduce_implication(
     assumed: &[TermId],
     depth: u32,
     t: TermId,
+    truth: bool,
     fact: Fact,
     condition: TermId,
 ) -> Result<Option<Fact>, Stop>
@@ -233,7 +247,9 @@ fn reduce_implication(
     ensures out { result ≡ Err Stop.OutOfSteps → work.new.counter.used ≡ work.new.counter.limit }
 {
     match relieve(work, history, way, search, assumed, depth, condition)? {
-        Some(shown) => reduce_relieved(work, history, way, search, assumed, depth, t, fact, shown),
+        Some(shown) => reduce_relieved(
+            work, history, way, search, assumed, depth, t, truth, fact, shown,
+        ),
         None => Ok(None),
     }
 }
@@ -248,6 +264,7 @@ fn reduce_relieved(
     assumed: &[TermId],
     depth: u32,
     t: TermId,
+    truth: bool,
     fact: Fact,
     shown: Fact,
 ) -> Result<Option<Fact>, Stop>
@@ -260,7 +277,17 @@ fn reduce_relieved(
     ensures out { result ≡ Err Stop.OutOfSteps → work.new.counter.used ≡ work.new.counter.limit }
 {
     match conclusion_for(work, history, assumed, fact, shown, t)? {
-        Some(next) => reduce(work, history, way, search, assumed, depth + 1, t, next),
+        Some(next) => reduce(
+            work,
+            history,
+            way,
+            search,
+            assumed,
+            depth + 1,
+            t,
+            truth,
+            next,
+        ),
         None => Ok(None),
     }
 }
@@ -275,6 +302,7 @@ fn reduce_conclusion(
     assumed: &[TermId],
     depth: u32,
     t: TermId,
+    truth: bool,
     fact: Fact,
 ) -> Result<Option<Fact>, Stop>
     requires depth { depth ≤ depth_limit }
@@ -284,8 +312,18 @@ fn reduce_conclusion(
     ensures grows { WorkGrows history.now work.old work.new }
     ensures out { result ≡ Err Stop.OutOfSteps → work.new.counter.used ≡ work.new.counter.limit }
 {
-    match part_for(work, history, assumed, fact, t)? {
-        Some(next) => reduce(work, history, way, search, assumed, depth + 1, t, next),
+    match part_for(work, history, assumed, truth, fact, t)? {
+        Some(next) => reduce(
+            work,
+            history,
+            way,
+            search,
+            assumed,
+            depth + 1,
+            t,
+            truth,
+            next,
+        ),
         None => Ok(Some(fact)),
     }
 }

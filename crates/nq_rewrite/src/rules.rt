@@ -105,7 +105,7 @@ fn add_head(bank: &Bank, heads: &mut Vec<Head>, place: u64, part: TermId) -> Res
     Ok(())
 }
 
-/// Adds the left sides of a conclusion.
+/// Adds the left sides of a conclusion. A part that is an implication has a conclusion of its own.
 fn add_heads(bank: &Bank, heads: &mut Vec<Head>, place: u64, part: TermId) -> Result<(), AllocError>
     requires { Stands bank.now part }
 {
@@ -114,7 +114,10 @@ fn add_heads(bank: &Bank, heads: &mut Vec<Head>, place: u64, part: TermId) -> Re
             add_heads(bank, heads, place, p)?;
             add_heads(bank, heads, place, q)
         }
-        None => add_head(bank, heads, place, part),
+        None => match two_of(bank, ground::IMPLIES, part) {
+            Some((_, conclusion)) => add_heads(bank, heads, place, conclusion),
+            None => add_head(bank, heads, place, part),
+        },
     }
 }
 

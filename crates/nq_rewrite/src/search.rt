@@ -2,7 +2,7 @@
 ghost use Rattle.std.specs.Prelude.{◌≡◌, Err};
 ghost use Rattle.nq_bank.specs.Content.{Stands};
 
-use crate::terms::{is_all_in, shares_variable, variables_of};
+use crate::terms::{MARK_LIMIT, variables_of};
 use nq_bank::{Bank, TermId};
 use nq_kernel::Stop;
 use std::alloc::Global;
@@ -48,37 +48,8 @@ pub struct Search {
     bound: bool,
     /// The marks of terms that nothing rewrites, with what is assumed and with what they stand within.
     settled: HashMap<u64, bool>,
-}
-
-/// The mark of a term where these are assumed. Only the assumptions count that share a variable with it: the others have no part
-/// in its rewriting, and in which order they stand has none either.
-pub fn mark_of(bank: &Bank, assumed: &[TermId], t: TermId) -> u64
-    requires { Stands bank.now t }
-{
-    let variables = variables_of(bank, t);
-    let mut sum: u64 = 0;
-    for a in assumed {
-        if shares_variable(bank, variables, *a) {
-            sum = sum.wrapping_add(mixed(ASSUMED, a.0));
-        }
-    }
-    mixed(mixed(TERM, t.0), sum)
-}
-
-/// The mark of a call that is opened where these are assumed. The tests of its body are about what stands in it, and so only the
-/// assumptions count that have no other variables and are hardly larger.
-pub fn mark_of_opening(bank: &Bank, assumed: &[TermId], t: TermId) -> u64
-    requires { Stands bank.now t }
-{
-    let variables = variables_of(bank, t);
-    let nodes = bank.size(t).saturating_add(TEST_NODES);
-    let mut sum: u64 = 0;
-    for a in assumed {
-        if is_all_in(bank, variables, nodes, *a) {
-            sum = sum.wrapping_add(mixed(ASSUMED, a.0));
-        }
-    }
-    mixed(mixed(OPENING, t.0), sum)
+    /// The variables of terms that were looked at.
+    variables: HashMap<u64, u64>,
 }
 
 impl Search {
@@ -89,6 +60,62 @@ impl Search {
             asked: 0,
             bound: false,
             settled: HashMap::new(alloc),
+            variables: HashMap::new(alloc),
+        }
+    }
+
+    /// The variables of a term, each as one of 64 bits, and all bits where the term is not walked. They are kept; where memory is
+    /// wanting they are looked for again.
+    fn variables_of(&mut self, bank: &Bank, t: TermId) -> u64
+        requires { Stands bank.now t }
+    {
+        if let Some(variables) = self.variables.get(&t.0) {
+            return *variables;
+        }
+        let variables = variables_of(bank, t);
+        let _ = self.variables.insert(t.0, variables);
+        variables
+    }
+
+    /// The mark of a term where these are assumed. Only the assumptions count that share a variable with it: the others have no part
+    /// in its rewriting, and in which order they stand has none either.
+    pub fn mark_of(&mut self, bank: &Bank, assumed: &[TermId], t: TermId) -> u64
+        requires { Stands bank.now t }
+    {
+        let variables = self.variables_of(bank, t);
+        let mut sum: u64 = 0;
+        for a in assumed {
+            if a.0 < bank.len() && self.variables_of(bank, *a) & variables != 0 {
+                sum = sum.wrapping_add(mixed(ASSUMED, a.0));
+            }
+        }
+        mixed(mixed(TERM, t.0), sum)
+    }
+
+    /// The mark of a call that is opened where these are assumed. The tests of its body are about what stands in it, and so only the
+    /// assumptions count that have no other variables and are hardly larger.
+    pub fn mark_of_opening(&mut self, bank: &Bank, assumed: &[TermId], t: TermId) -> u64
+        requires { Stands bank.now t }
+    {
+        let variables = self.variables_of(bank, t);
+        let nodes = bank.size(t).saturating_add(TEST_NODES);
+        let mut sum: u64 = 0;
+        for a in assumed {
+            if self.is_all_in(bank, variables, nodes, *a) {
+                sum = sum.wrapping_add(mixed(ASSUMED, a.0));
+            }
+        }
+        mixed(mixed(OPENING, t.0), sum)
+    }
+
+    /// Has a term only these variables, and at most so many nodes?
+    fn is_all_in(&mut self, bank: &Bank, variables: u64, nodes: u64, t: TermId) -> bool {
+        if t.0 < bank.len() {
+            bank.size(t) <= nodes
+                && bank.size(t) < MARK_LIMIT
+                && self.variables_of(bank, t) & !variables == 0
+        } else {
+            false
         }
     }
 

@@ -8,7 +8,7 @@ use std::alloc::AllocError;
 const WALK_LIMIT: u64 = 20000;
 
 /// The size from which on the variables of terms are not looked for.
-const MARK_LIMIT: u64 = 500;
+pub const MARK_LIMIT: u64 = 500;
 
 /// The most terms of a goal that are kept.
 const KEPT_LIMIT: usize = 500;
@@ -108,36 +108,10 @@ fn variable_bits(bank: &Bank, t: TermId) -> u64
     }
 }
 
-/// Stands one of these variables, each one of 64 bits, in a term?
-fn has_one_of(bank: &Bank, variables: u64, t: TermId) -> bool
-    requires { Stands bank.now t }
-{
-    match bank.node(t) {
-        Node::Var(x) => (1u64.wrapping_shl((x.0 % 64) as u32) & variables) != 0,
-        Node::Num(_) => false,
-        Node::App(_, _) => {
-            for a in bank.args(t) {
-                if has_one_of(bank, variables, *a) {
-                    return true;
-                }
-            }
-            false
-        }
-    }
-}
-
 /// Has a term one of these variables? One that is not walked has any.
 pub fn shares_variable(bank: &Bank, variables: u64, t: TermId) -> bool {
-    if variables == 0 || t.0 >= bank.len() {
-        return false;
-    }
-    bank.size(t) >= MARK_LIMIT || has_one_of(bank, variables, t)
-}
-
-/// Has a term only these variables, and at most so many nodes?
-pub fn is_all_in(bank: &Bank, variables: u64, nodes: u64, t: TermId) -> bool {
     if t.0 < bank.len() {
-        bank.size(t) <= nodes && bank.size(t) < MARK_LIMIT && !has_one_of(bank, !variables, t)
+        variables_of(bank, t) & variables != 0
     } else {
         false
     }

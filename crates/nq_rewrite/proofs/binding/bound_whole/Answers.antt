@@ -1,0 +1,8 @@
+use Rattle.nq_kernel.proofs.GrowingLemmas.{WorkGrows-refl}
+use Rattle.nq_rewrite.proofs.binding.bound_whole.Goals as goal
+
+pub returns-in-None-clause-grows : goal.returns-in-None-clause-grows
+returns-in-None-clause-grows c = WorkGrows-refl c.args.history.now c.args.work.now c.requires.stands
+
+pub returns-in_err-left-clause-grows : goal.returns-in_err-left-clause-grows
+returns-in_err-left-clause-grows c = WorkGrows-refl c.args.history.now c.args.work.now c.requires.stands
