@@ -3,3 +3,4 @@ mod ProverLemmas
 mod TacticLemmas
 mod WayLemmas
 mod KnownLemmas
+mod ObjectLemmas

@@ -17,7 +17,7 @@ among_get [] i t d below e = absurd (omega (arith, below))
 among_get (x ∷ xs) zero t d below e = inl (ap (λ (n : ℕ). record { 0 = n }) (sym e))
 among_get (x ∷ xs) (suc i) t d below e = inr (among_get xs i t d (omega (arith, below)) e)
 
-term_among : (bank : Content) (t : TermId) (goal : List TermId) → IsAmong t goal → IsAmong (term_at bank t) (terms_at bank goal)
+pub term_among : (bank : Content) (t : TermId) (goal : List TermId) → IsAmong t goal → IsAmong (term_at bank t) (terms_at bank goal)
 term_among bank t [] m = absurd m
 term_among bank t (u ∷ us) (inl e) = inl (ap (term_at bank) e)
 term_among bank t (u ∷ us) (inr m) = inr (term_among bank t us m)

@@ -1,6 +1,6 @@
 //! The search for the line of a lemma. Of each instance that its hints name the negation stands in the goal, and the line that is
 //! found is cut by the instance's own.
-ghost use Rattle.std.specs.Prelude.{◌≡◌, ◌∷◌, [], IfOk, Err, length};
+ghost use Rattle.std.specs.Prelude.{◌≡◌, ◌<◌, ◌∷◌, [], IfOk, IfSome, Err, length};
 ghost use Rattle.nq_bank.specs.Content.{term_at, terms_at};
 ghost use Rattle.nq_kernel.specs.Growing.{WorkGrows};
 ghost use Rattle.nq_lines.specs.Facts.{IsFact};
@@ -20,11 +20,28 @@ use nq_lines::{Fact, cut, deny};
 use nq_reduce::with_more;
 use nq_search::{Plan, seek};
 
-/// Into how many parts the steps are divided of which the first round gets one.
-const FIRST_PART: u64 = 32;
+/// A round of the search.
+#[derive(Clone, Copy)]
+struct Round {
+    /// Into how many parts the steps are divided of which the round gets one.
+    part: u64,
+    /// The share, in tenths, of the steps that a way gets where others follow.
+    share: u64,
+}
 
-/// Into how many parts the steps are divided of which the second round gets one.
-const SECOND_PART: u64 = 8;
+/// The round of this number, from 0: first with few steps, then with more, and then with all. In the last more of the steps go to the
+/// ways that come first.
+fn round_of(number: u32) -> Option<Round>
+    ensures some { IfSome result (λ round. 0 < round.part) }
+    ensures last { IfSome result (λ round. number < 3) }
+{
+    match number {
+        0 => Some(Round { part: 32, share: 5 }),
+        1 => Some(Round { part: 8, share: 5 }),
+        2 => Some(Round { part: 1, share: 8 }),
+        _ => None,
+    }
+}
 
 /// The plan of a search that ends at a count of steps.
 fn plan_until(until: u64) -> Plan {
@@ -82,15 +99,16 @@ fn seek_after_falls(
 {
     ready_histories();
     learn_falls(work, history, hints, goal)?;
-    seek_widening(work, history, hints, goal)
+    seek_widening(work, history, hints, 0, goal)
 }
 
-/// Seeks a line of a goal: first with few steps, then with more, and then with all. The later a round, the more of its steps go to
-/// the ways that come first.
+/// Seeks a line of a goal by one round after the other, from this one on.
+#[cycle(rounds)]
 fn seek_widening(
     work: &mut Work,
     history: &History,
     hints: &Hints,
+    number: u32,
     goal: &[TermId],
 ) -> Result<Option<u64>, Stop>
     requires can { CanSearch history.now hints.now work.old }
@@ -100,22 +118,58 @@ fn seek_widening(
     ensures out { result ≡ Err Stop.OutOfSteps → work.new.counter.used ≡ work.new.counter.limit }
 {
     ready_histories();
-    let before = work.counter.used();
-    let plan = plan_until(before.saturating_add(work.counter.limit() / FIRST_PART));
-    match seek(work, &mut Waterfall::new(5), history, hints, plan, goal)? {
-        Some(line) => Ok(Some(line)),
-        None => seek_again(work, history, hints, goal, before),
+    match round_of(number) {
+        Some(round) => seek_round(work, history, hints, number, round, goal),
+        None => Ok(None),
     }
 }
 
-/// The same, where the first round found none.
+/// The same, by a round and those after it.
+#[cycle(rounds)]
+fn seek_round(
+    work: &mut Work,
+    history: &History,
+    hints: &Hints,
+    number: u32,
+    round: Round,
+    goal: &[TermId],
+) -> Result<Option<u64>, Stop>
+    requires some { 0 < round.part }
+    requires last { number < 3 }
+    requires can { CanSearch history.now hints.now work.old }
+    requires goal { IsGoalIn history.now work.old goal.now }
+    ensures found { IfOk result (IsFound work.new (terms_at work.old.bank goal.now)) }
+    ensures grows { WorkGrows history.now work.old work.new }
+    ensures out { result ≡ Err Stop.OutOfSteps → work.new.counter.used ≡ work.new.counter.limit }
+{
+    ready_histories();
+    let before = work.counter.used();
+    let limit = work.counter.limit();
+    let plan = plan_until(before.saturating_add(limit / round.part).min(limit));
+    match seek(
+        work,
+        &mut Waterfall::new(round.share),
+        history,
+        hints,
+        plan,
+        goal,
+    )? {
+        Some(line) => Ok(Some(line)),
+        None => seek_again(work, history, hints, number, goal, before),
+    }
+}
+
+/// The same, where a round found none.
+#[cycle(rounds)]
 fn seek_again(
     work: &mut Work,
     history: &History,
     hints: &Hints,
+    number: u32,
     goal: &[TermId],
     before: u64,
 ) -> Result<Option<u64>, Stop>
+    requires last { number < 3 }
     requires can { CanSearch history.now hints.now work.old }
     requires goal { IsGoalIn history.now work.old goal.now }
     ensures found { IfOk result (IsFound work.new (terms_at work.old.bank goal.now)) }
@@ -125,50 +179,7 @@ fn seek_again(
     if is_exhausted(work, before) {
         return Ok(None);
     }
-    seek_more(work, history, hints, goal)
-}
-
-/// The same, with more steps.
-fn seek_more(
-    work: &mut Work,
-    history: &History,
-    hints: &Hints,
-    goal: &[TermId],
-) -> Result<Option<u64>, Stop>
-    requires can { CanSearch history.now hints.now work.old }
-    requires goal { IsGoalIn history.now work.old goal.now }
-    ensures found { IfOk result (IsFound work.new (terms_at work.old.bank goal.now)) }
-    ensures grows { WorkGrows history.now work.old work.new }
-    ensures out { result ≡ Err Stop.OutOfSteps → work.new.counter.used ≡ work.new.counter.limit }
-{
-    ready_histories();
-    let before = work.counter.used();
-    let plan = plan_until(before.saturating_add(work.counter.limit() / SECOND_PART));
-    match seek(work, &mut Waterfall::new(7), history, hints, plan, goal)? {
-        Some(line) => Ok(Some(line)),
-        None => seek_further(work, history, hints, goal, before),
-    }
-}
-
-/// The same, where the second round found none: with all steps.
-fn seek_further(
-    work: &mut Work,
-    history: &History,
-    hints: &Hints,
-    goal: &[TermId],
-    before: u64,
-) -> Result<Option<u64>, Stop>
-    requires can { CanSearch history.now hints.now work.old }
-    requires goal { IsGoalIn history.now work.old goal.now }
-    ensures found { IfOk result (IsFound work.new (terms_at work.old.bank goal.now)) }
-    ensures grows { WorkGrows history.now work.old work.new }
-    ensures out { result ≡ Err Stop.OutOfSteps → work.new.counter.used ≡ work.new.counter.limit }
-{
-    if is_exhausted(work, before) {
-        return Ok(None);
-    }
-    let plan = plan_until(work.counter.limit());
-    seek(work, &mut Waterfall::new(8), history, hints, plan, goal)
+    seek_widening(work, history, hints, number + 1, goal)
 }
 
 /// Seeks a line of a lemma.

@@ -14,6 +14,7 @@ mod simplifying;
 // lines that close goals
 mod arithmetic;
 mod numbers;
+mod objects;
 mod tested;
 mod trivial;
 

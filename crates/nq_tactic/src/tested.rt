@@ -1,4 +1,4 @@
-//! Goals of which a literal is shown to be true by rules that say so, where the denials of the others are assumed.
+//! Goals of which a literal is shown to be true: by rules that say so, where the denials of the others are assumed, or by what it is.
 ghost use Rattle.std.specs.Prelude.{◌≡◌, ◌<◌, IfOk, IfSome, Err, length};
 ghost use Rattle.nq_bank.specs.Content.{Stands, terms_at};
 ghost use Rattle.nq_history.specs.Events.{events_at};
@@ -7,6 +7,7 @@ ghost use Rattle.nq_lines.specs.Lines.{LineHasOnly};
 ghost use Rattle.nq_lines.specs.OwnTerms.{HasOwnTerms};
 ghost use Rattle.nq_search.specs.Goals.{IsGoalIn};
 
+use crate::objects::object_line;
 use nq_bank::{Bank, Node, TermId};
 use nq_history::{Hints, History};
 use nq_kernel::{Stop, Work};
@@ -32,7 +33,8 @@ fn is_told(bank: &Bank, rules: &Rules, t: TermId) -> bool
     }
 }
 
-/// The line of a goal by the literal at an index, where there are rules of calls like it and the rewriter shows that it is true.
+/// The line of a goal by the literal at an index, where there are rules of calls like it and the rewriter shows that it is true, or
+/// where it is another object than F.
 fn line_at(
     work: &mut Work,
     history: &History,
@@ -56,11 +58,11 @@ fn line_at(
         };
         line_of_literal(work, history, &mut rewriter, goal, at)
     } else {
-        Ok(None)
+        object_line(work, history, hints, goal, at)
     }
 }
 
-/// The line of a goal of which a literal is true by rules.
+/// The line of a goal of which a literal is true by what it is, or by rules.
 pub fn tested_line(
     work: &mut Work,
     history: &History,
