@@ -1,6 +1,7 @@
 //! Terms in place of variables.
-ghost use Rattle.std.specs.Prelude.{◌≡◌, ◌<◌, ◌≤◌, ◌++◌, ◌∷◌, [], All, IfOk, OnOk, Err};
-ghost use Rattle.nq_logic.specs.Terms.{Variable, value_at, substituted};
+ghost use Rattle.std.specs.Prelude.{◌≡◌, ◌<◌, ◌≤◌, ◌++◌, ◌∷◌, [], All, IfOk, IfSome, OnOk, Err, Some, nat_eq};
+ghost use Rattle.std.specs.HashMap.{get};
+ghost use Rattle.nq_logic.specs.Terms.{Substitution, Variable, value_at, substituted};
 ghost use Rattle.nq_logic.specs.Sizes.{depth_of, depth_limit};
 ghost use Rattle.nq_bank.specs.Content.{Stands, IsNamed, IsIdOf, Grows, text_at, term_at};
 ghost use Rattle.nq_clause.specs.Substitution.{substitution_at, PairStands, HasIds};
@@ -19,8 +20,11 @@ pub struct Pair {
     pub term: TermId,
 }
 
+/// Terms of at most so many levels are small: to replace one anew wherever it stands costs less than to remember it.
+const SMALL_DEPTH: u32 = 4;
+
 /// The id of the term in which the variables of the pairs are all replaced at once, by the first pair of each. Each shared
-/// node is replaced once. It is `Deep` exactly where the term would be deeper than the depth limit, unless memory is wanting
+/// node that is not small is replaced once. It is `Deep` exactly where the term would be deeper than the depth limit, unless memory is wanting
 /// first; an error may leave more terms in the bank.
 pub fn substitute(bank: &mut Bank, t: TermId, pairs: &[Pair]) -> Result<TermId, BankFault>
     requires stands { Stands bank.old t }
@@ -62,7 +66,7 @@ fn substitute_within(
     match bank.node(t) {
         Node::Var(s) => Ok(replacement(bank, t, s, pairs)),
         Node::Num(_) => Ok(t),
-        Node::App(f, _) => match known_id(known, t) {
+        Node::App(f, _) => match known_replaced(bank, known, t) {
             Some(r) => Ok(r),
             None => {
                 let alloc = bank.alloc();
@@ -73,11 +77,46 @@ fn substitute_within(
                     add_part(&mut parts, part)?;
                 }
                 let r = bank.app(f, parts.as_slice())?;
-                keep_id(known, t, r)?;
+                keep_replaced(bank, known, t, r)?;
                 Ok(r)
             }
         },
     }
+}
+
+/// Is a term so small that its id is not kept?
+fn is_small(bank: &Bank, t: TermId) -> bool
+    requires { Stands bank.now t }
+{
+    bank.depth(t) <= SMALL_DEPTH
+}
+
+/// The id that is known for a replaced term.
+fn known_replaced(bank: &Bank, known: &HashMap<u64, TermId>, t: TermId) -> Option<TermId>
+    requires { Stands bank.now t }
+    ensures { IfSome result (λ r. get nat_eq known.now t.0 ≡ Some r) }
+{
+    if is_small(bank, t) {
+        return None;
+    }
+    known_id(known, t)
+}
+
+/// Keeps the id of a replaced term, unless it is small.
+fn keep_replaced(
+    bank: &Bank,
+    known: &mut HashMap<u64, TermId>,
+    t: TermId,
+    r: TermId,
+) -> Result<(), BankFault>
+    requires { Stands bank.now t }
+    ensures ids { OnOk result ((s : Substitution) → HasIds bank.now s known.old → IsIdOf bank.now r (substituted s (term_at bank.now t)) → HasIds bank.now s known.new) }
+    ensures not_deep { result ≡ Err BankFault.Deep → ⊥ }
+{
+    if is_small(bank, t) {
+        return Ok(());
+    }
+    keep_id(known, t, r)
 }
 
 /// The id of the term that stands in the place of a variable, or else the variable's own.

@@ -1,5 +1,5 @@
 -- Work that grew keeps its lines and what they mean.
-use Rattle.std.proofs.Common.{◌≡◌, ℕ, Option, Some, None, List, length, take, refl, sym, ap, ◌∙◌, subst, arith}
+use Rattle.std.proofs.Common.{◌≡◌, ℕ, Option, Some, None, List, length, take, refl, sym, ap, ◌∙◌, subst, arith, inl, inr}
 use Rattle.std.specs.Prelude.{All, IsSome, get_or}
 use Rattle.std.specs.Option.{option_map}
 use Rattle.std.proofs.lemmas.List.{take_all}
@@ -16,7 +16,7 @@ use Rattle.nq_kernel.specs.declared.rule.Line.{Line}
 use Rattle.nq_kernel.specs.declared.prescription.Prescription.{Prescription}
 use Rattle.nq_kernel.specs.declared.work.Work.{Work}
 use Rattle.nq_kernel.specs.Lines.{ids_at}
-use Rattle.nq_kernel.specs.Meaning.{RuleStands, IsOver, clause_at, Adds}
+use Rattle.nq_kernel.specs.Meaning.{RuleStands, IsOver, clause_at, conclusion_at, Adds, Places}
 use Rattle.nq_kernel.specs.Counting.{Counting}
 use Rattle.nq_kernel.specs.Over.{IsVariable, RuleIsIn}
 use Rattle.nq_kernel.specs.Growing.{Fits, CountsUp, PrescriptionStands, WorkStands, WorkGrows, LineHolds}
@@ -97,6 +97,18 @@ grows_without_line history old bank log counter stands grows symbols same counts
       known = known_stays old;
       stands = stands_without_line history old bank log counter stands grows same;
     }
+
+-- a line that stood has the clause of the rule, or one that was added
+pub placed_clause : (before after : Content) (history : List Entry) (old new : List Line) (rule : Rule) (n : ℕ) → Places before after history old new rule n → clause_at after new n ≡ conclusion_at before history old rule
+placed_clause before after history old new rule n places =
+    elim places [ inl stood ↦ ap (λ log. clause_at after log n) stood.0 ∙ stood.1 | inr adds ↦ added_clause before after history old new rule n adds ]
+
+pub placed_grows : (history : List Entry) (old : Work) (bank : Content) (log : List Line) (counter : Counting) (rule : Rule) (n : ℕ) → WorkStands history old → RuleStands old.bank rule → RuleIsIn old.bank history rule → Grows old.bank bank → AddsSymbols old.bank bank → Places old.bank bank history old.log log rule n → CountsUp old.counter counter → WorkGrows history old (record { bank = bank; log = log; counter = counter; known = old.known })
+placed_grows history old bank log counter rule n stands named over grows symbols places counts =
+    elim places [
+      | inl stood ↦ grows_without_line history old bank log counter stands grows symbols stood.0 counts
+      | inr adds ↦ grows_by_line history old bank log counter rule n stands named over grows symbols adds counts
+    ]
 
 -- work whose log stays
 pub bank_grows : (history : List Entry) (old : Work) (bank : Content) (counter : Counting) → WorkStands history old → Grows old.bank bank → AddsSymbols old.bank bank → CountsUp old.counter counter → WorkGrows history old (record { bank = bank; log = old.log; counter = counter; known = old.known })

@@ -1,5 +1,5 @@
 -- What rules and lines of ids mean over a bank.
-use Rattle.std.specs.Prelude.{◌≡◌, ◌+◌, ◌++◌, ◌∷◌, [], ℕ, Bool, true, false, List, Option, length, All, ⊤}
+use Rattle.std.specs.Prelude.{◌≡◌, ◌+◌, ◌⊎◌, ◌++◌, ◌∷◌, [], ℕ, Bool, true, false, List, Option, length, All, ⊤}
 use Rattle.std.specs.Option.{option_map}
 use Rattle.nq_bank.specs.declared.node.TermId.{TermId}
 use Rattle.nq_bank.specs.Content.{Content, Stands, IsNamed, text_at, term_at, terms_at}
@@ -86,3 +86,8 @@ pub record Adds (before after : Content) (history : List Entry) (old new : List 
   pub rule_is : line.rule ≡ rule
   pub stands_is : line.stands ≡ true
   pub clause : Concludes after line.clause.items (conclusion_at before history old rule)
+
+-- the number n is of a line with the clause that the rule gives: of one that stood, or of one that was added
+abbrev pub Places : Content → Content → List Entry → List Line → List Line → Rule → ℕ → Type 0
+Places before after history old new rule n =
+    ((new ≡ old) × (clause_at after old n ≡ conclusion_at before history old rule)) ⊎ Adds before after history old new rule n

@@ -15,7 +15,7 @@ ghost use Rattle.nq_rule.specs.Branches.{branches_at, BranchesStand};
 ghost use Rattle.nq_rule.specs.Conclusions.{Concludes, IsDeep};
 ghost use Rattle.nq_rule.specs.Places.{part_at};
 ghost use Rattle.nq_rule.specs.Results.{first_split_of, second_split_of, not_not_of};
-ghost use Rattle.nq_kernel.specs.Meaning.{clause_at, IsOver, RuleStands, Adds, conclusion_at, is_axiom_row};
+ghost use Rattle.nq_kernel.specs.Meaning.{clause_at, IsOver, RuleStands, Adds, Places, conclusion_at, is_axiom_row};
 ghost use Rattle.nq_kernel.specs.Lines.{ids_at, live_lines, rule_of};
 
 use crate::axioms::{clause_of_axiom, has_axiom};
@@ -190,7 +190,7 @@ impl Log {
     }
 
     /// Notes a line, so that one with its clause is found. Where memory is wanting it is not noted.
-    pub fn note(&mut self, line: u64)
+    fn note(&mut self, line: u64)
         ensures { self.new ≡ self.old }
     {
         if let Some(clause) = self.cited(line) {
@@ -199,24 +199,37 @@ impl Log {
         }
     }
 
-    /// A noted line that has the clause which an allowed rule gives, if there is one.
-    pub fn find(
-        &self,
+    /// The number of a line that has the clause which an allowed rule gives: of one that is noted, or else of a new one, which
+    /// is noted then.
+    pub fn find_or_add(
+        &mut self,
         bank: &mut Bank,
         history: &History,
-        rule: &Rule,
-    ) -> Result<Option<u64>, BankFault>
-        requires log { IsOver bank.old self.now }
+        rule: Rule,
+    ) -> Result<u64, BankFault>
+        requires log { IsOver bank.old self.old }
         requires history { HistoryStands bank.old history.now }
-        requires rule { RuleStands bank.old rule.now }
-        requires allowed { IsSome (conclusion_at bank.old history.now self.now rule.now) }
-        ensures line { IfOk result (λ found. IfSome found (λ n. clause_at bank.new self.now n ≡ conclusion_at bank.old history.now self.now rule.now)) }
+        requires rule { RuleStands bank.old rule }
+        requires allowed { IsSome (conclusion_at bank.old history.now self.old rule) }
+        ensures line { IfOk result (λ n. Places bank.old bank.new history.now self.old self.new rule n) }
         ensures grows { Grows bank.old bank.new }
-        ensures deep { result ≡ Err BankFault.Deep → IsDeep (conclusion_at bank.old history.now self.now rule.now) }
+        ensures err { OnErr result (self.new ≡ self.old) }
         ensures symbols { AddsSymbols bank.old bank.new }
     {
-        let clause = self.conclude(bank, history, rule)?;
-        Ok(self.noted(clause.as_slice()))
+        let clause = self.conclude(bank, history, &rule)?;
+        match self.noted(clause.as_slice()) {
+            Some(n) => Ok(n),
+            None => {
+                let n = self.len() + 1;
+                self.push(Line {
+                    rule,
+                    clause,
+                    stands: true,
+                })?;
+                self.note(n);
+                Ok(n)
+            }
+        }
     }
 
     /// Ends the use of a line: the room that its clause and its rule took is given back.

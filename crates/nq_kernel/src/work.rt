@@ -50,6 +50,11 @@ pub struct Work {
     pub known: Vec<Prescription>,
 }
 
+/// The steps of a line, where one was added.
+fn steps_if(added: bool, steps: u128) -> u128 {
+    if added { steps } else { 0 }
+}
+
 impl Work {
     /// Work on a bank and a log, with no step used of so many, and nothing known.
     pub fn new(bank: Bank, log: Log, limit: u64) -> Work
@@ -144,22 +149,26 @@ impl Work {
         }
     }
 
-    /// The number of a noted line that has the clause which an allowed rule gives, if there is one; new terms are counted.
-    fn find(&mut self, history: &History, rule: &Rule) -> Result<Option<u64>, Stop>
+    /// The number of a line that has the clause which an allowed rule over the history's functions gives: of one that this call
+    /// made before, or else of a new one, which is counted as `add` counts it.
+    pub fn find_or_add(&mut self, history: &History, rule: Rule) -> Result<u64, Stop>
         requires stands { WorkStands history.now self.old }
-        requires rule { RuleStands self.old.bank rule.now }
-        requires allowed { IsSome (conclusion_at self.old.bank history.now self.old.log rule.now) }
-        ensures line { IfOk result (λ found. IfSome found (λ n. clause_at self.new.bank self.new.log n ≡ conclusion_at self.old.bank history.now self.old.log rule.now)) }
-        ensures log { self.new.log ≡ self.old.log }
+        requires rule { RuleStands self.old.bank rule }
+        requires over { RuleIsIn self.old.bank history.now rule }
+        requires allowed { IsSome (conclusion_at self.old.bank history.now self.old.log rule) }
+        ensures line { IfOk result (λ n. clause_at self.new.bank self.new.log n ≡ conclusion_at self.old.bank history.now self.old.log rule) }
         ensures grows { WorkGrows history.now self.old self.new }
         ensures out { result ≡ Err Stop.OutOfSteps → self.new.counter.used ≡ self.new.counter.limit }
     {
-        let before = self.bank.len();
-        let found = self.log.find(&mut self.bank, history, rule);
-        let made = u128::from(self.bank.len().saturating_sub(before));
-        match found {
+        let terms = self.bank.len();
+        let lines = self.log.len();
+        let steps = steps_of_line(&rule);
+        let placed = self.log.find_or_add(&mut self.bank, history, rule);
+        let made = u128::from(self.bank.len().saturating_sub(terms));
+        let added = steps_if(self.log.len() != lines, steps);
+        match placed {
             Ok(line) => {
-                if self.counter.count(made) {
+                if self.counter.count(made.saturating_add(added)) {
                     Ok(line)
                 } else {
                     Err(Stop::OutOfSteps)
@@ -173,38 +182,6 @@ impl Work {
                 self.counter.count(made);
                 Err(Stop::Memory)
             }
-        }
-    }
-
-    /// Adds the line of an allowed rule and notes it.
-    fn add_noted(&mut self, history: &History, rule: Rule) -> Result<u64, Stop>
-        requires stands { WorkStands history.now self.old }
-        requires rule { RuleStands self.old.bank rule }
-        requires over { RuleIsIn self.old.bank history.now rule }
-        requires allowed { IsSome (conclusion_at self.old.bank history.now self.old.log rule) }
-        ensures line { IfOk result (λ n. clause_at self.new.bank self.new.log n ≡ conclusion_at self.old.bank history.now self.old.log rule) }
-        ensures grows { WorkGrows history.now self.old self.new }
-        ensures out { result ≡ Err Stop.OutOfSteps → self.new.counter.used ≡ self.new.counter.limit }
-    {
-        let line = self.add(history, rule)?;
-        self.log.note(line);
-        Ok(line)
-    }
-
-    /// The number of a line that has the clause which an allowed rule over the history's functions gives: of one that this call
-    /// made before, or else of a new one, which is counted as `add` counts it.
-    pub fn find_or_add(&mut self, history: &History, rule: Rule) -> Result<u64, Stop>
-        requires stands { WorkStands history.now self.old }
-        requires rule { RuleStands self.old.bank rule }
-        requires over { RuleIsIn self.old.bank history.now rule }
-        requires allowed { IsSome (conclusion_at self.old.bank history.now self.old.log rule) }
-        ensures line { IfOk result (λ n. clause_at self.new.bank self.new.log n ≡ conclusion_at self.old.bank history.now self.old.log rule) }
-        ensures grows { WorkGrows history.now self.old self.new }
-        ensures out { result ≡ Err Stop.OutOfSteps → self.new.counter.used ≡ self.new.counter.limit }
-    {
-        match self.find(history, &rule)? {
-            Some(line) => Ok(line),
-            None => self.add_noted(history, rule),
         }
     }
 

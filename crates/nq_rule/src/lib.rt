@@ -35,7 +35,7 @@ mod replacing;
 mod induction;
 
 pub use branching::{Branches, branches_in};
-pub use clauses::contains_opposite;
+pub use clauses::{contains, contains_opposite};
 pub use cutting::{clause_of, cut_clause, join_clause, weaker_clause};
 pub use equations::{clause_of_one, reflexive_clause};
 pub use induction::{

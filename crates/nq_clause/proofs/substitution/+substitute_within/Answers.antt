@@ -7,7 +7,7 @@ use Rattle.nq_logic.specs.Sizes.{depth_of, depth_limit}
 use Rattle.nq_bank.specs.Content.{Content, term_at, terms_at, text_at, Stands, IsIdOf}
 use Rattle.nq_bank.proofs.Growth.{Grows-trans, Stands-grown, term_at-grown}
 use Rattle.nq_clause.specs.Substitution.{substitution_at, HasIds}
-use Rattle.nq_clause.proofs.SubstitutionLemmas.{IsStep, substituted-numeral, substitution_at-grown, pairs_grown, argument_same, replaced_step, arguments_stand, whole_call, ids_kept, ids_grown, deep_replaced}
+use Rattle.nq_clause.proofs.SubstitutionLemmas.{IsStep, substituted-numeral, substitution_at-grown, pairs_grown, argument_same, replaced_step, arguments_stand, whole_call, ids_grown, deep_replaced}
 use Rattle.nq_bank.proofs.Standing.{stand_grown, All-push, passed_on}
 use Rattle.nq_clause.proofs.substitution.+substitute_within.Goals as goal
 
@@ -70,15 +70,15 @@ returns-in_err-r-in-None-clause-deep t c =
     let whole = whole_call s old c.loop-a.bank (term_at old c.args.t) c.in-App.f c.args-in-None.result.now c.deref-a-items.result.now c.loop-a.parts.items c.as_slice.result.now c.loop-a.a-index c.loop-a.invariant.grows c.in-App.ensures.head.0 c.in-App.ensures.head.1 c.args-in-None.ensures.parts (c.deref-a-items.ensures.value ∙ c.in_ok-arguments-in-None.ensures.ok) c.loop-a-test.false c.loop-a.invariant.done c.as_slice.ensures.value in
     subst (λ u. depth_limit < depth_of u) whole (c.app.ensures.deep.0 (c.in_err-r-in-None.was ∙ ap Err came))
 
-pub returns-in_ok-keep_id-in-None-clause-ok : goal.returns-in_ok-keep_id-in-None-clause-ok
-returns-in_ok-keep_id-in-None-clause-ok t c =
+pub returns-in_ok-keep_replaced-in-None-clause-ok : goal.returns-in_ok-keep_replaced-in-None-clause-ok
+returns-in_ok-keep_replaced-in-None-clause-ok t c =
     let old : Content = c.args.bank.now in
     let s : Substitution = substitution_at old c.args.pairs.now in
     let whole = whole_call s old c.loop-a.bank (term_at old c.args.t) c.in-App.f c.args-in-None.result.now c.deref-a-items.result.now c.loop-a.parts.items c.as_slice.result.now c.loop-a.a-index c.loop-a.invariant.grows c.in-App.ensures.head.0 c.in-App.ensures.head.1 c.args-in-None.ensures.parts (c.deref-a-items.ensures.value ∙ c.in_ok-arguments-in-None.ensures.ok) c.loop-a-test.false c.loop-a.invariant.done c.as_slice.ensures.value in
     subst (IsIdOf c.app.new.self c.in_ok-r-in-None.r) whole c.in_ok-r-in-None.ensures.ok.id
 
-pub returns-in_ok-keep_id-in-None-clause-ids : goal.returns-in_ok-keep_id-in-None-clause-ids
-returns-in_ok-keep_id-in-None-clause-ids t c =
+pub returns-in_ok-keep_replaced-in-None-clause-ids : goal.returns-in_ok-keep_replaced-in-None-clause-ids
+returns-in_ok-keep_replaced-in-None-clause-ids t c =
     let old : Content = c.args.bank.now in
     let bank : Content = c.loop-a.bank in
     let new : Content = c.app.new.self in
@@ -87,7 +87,7 @@ returns-in_ok-keep_id-in-None-clause-ids t c =
     let grows = Grows-trans old bank new c.loop-a.invariant.grows after in
     let whole = whole_call s old bank (term_at old c.args.t) c.in-App.f c.args-in-None.result.now c.deref-a-items.result.now c.loop-a.parts.items c.as_slice.result.now c.loop-a.a-index c.loop-a.invariant.grows c.in-App.ensures.head.0 c.in-App.ensures.head.1 c.args-in-None.ensures.parts (c.deref-a-items.ensures.value ∙ c.in_ok-arguments-in-None.ensures.ok) c.loop-a-test.false c.loop-a.invariant.done c.as_slice.ensures.value in
     let id = subst (IsIdOf new c.in_ok-r-in-None.r) (whole ∙ ap (substituted s) (sym (term_at-grown old new c.args.t grows c.requires.stands))) c.in_ok-r-in-None.ensures.ok.id in
-    ids_kept new s c.loop-a.known c.keep_id.new.known c.args.t c.in_ok-r-in-None.r (ids_grown bank new s c.loop-a.known after c.loop-a.invariant.ids) c.in_ok-keep_id-in-None.ensures.ok (Stands-grown old new c.args.t grows c.requires.stands) id
+    c.in_ok-keep_replaced-in-None.ensures.ids s (ids_grown bank new s c.loop-a.known after c.loop-a.invariant.ids) id
 
 pub returns-in-Num-clause-ok : goal.returns-in-Num-clause-ok
 returns-in-Num-clause-ok t c =
@@ -96,4 +96,4 @@ returns-in-Num-clause-ok t c =
     record { stands = c.requires.stands; denotes = number ∙ sym (ap (substituted s) number ∙ substituted-numeral s c.in-Num.field-0) }
 
 pub returns-in-Some-clause-ok : goal.returns-in-Some-clause-ok
-returns-in-Some-clause-ok t c = c.requires.ids.right c.args.t c.in-Some.r (sym c.known_id.ensures ∙ c.in-Some.is)
+returns-in-Some-clause-ok t c = c.requires.ids.right c.args.t c.in-Some.r c.in-Some.ensures
