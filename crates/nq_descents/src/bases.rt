@@ -4,11 +4,12 @@ ghost use Rattle.nq_replay.specs.Uncounted.{GrowsUncounted};
 
 use crate::halt::Halt;
 use crate::making::{deny, deny_twice, equate};
-use crate::reading::{argument, has_id, literal_at, literal_count};
+use crate::reading::{argument, literal_at, literal_count};
 use crate::rules::{cut, opposites, reflexive, replace};
 use nq_bank::TermId;
 use nq_history::History;
 use nq_kernel::Work;
+use nq_lines::has_id;
 use nq_rule::Side;
 
 /// Adds a line with `(NOT (NOT t))` for t.

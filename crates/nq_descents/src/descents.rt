@@ -1,6 +1,5 @@
 //! The line of an obligation that the axioms of shells show.
-ghost use Rattle.std.specs.Prelude.{◌≡◌, All, IfOk, IfSome, nat_eq, true};
-ghost use Rattle.std.specs.List.{list_all, list_any};
+ghost use Rattle.std.specs.Prelude.{◌≡◌, All, IfOk, IfSome};
 ghost use Rattle.nq_bank.specs.Content.{Stands, terms_at};
 ghost use Rattle.nq_kernel.specs.Growing.{WorkStands};
 ghost use Rattle.nq_lines.specs.Lines.{LineHasOnly};
@@ -10,11 +9,12 @@ use crate::facts::{facts_of, restored, wanted_of};
 use crate::halt::Halt;
 use crate::instances::instance;
 use crate::nests::nest_line;
-use crate::reading::{argument, has_id, is_call, last_literal, literal_at};
+use crate::reading::{argument, is_call, last_literal, literal_at};
 use crate::rules::cut;
 use nq_bank::{Bank, TermId, ground};
 use nq_history::History;
 use nq_kernel::Work;
+use nq_lines::has_only;
 use nq_replay::{size_is_ordinal, smaller_is_below};
 use std::alloc::AllocError;
 
@@ -161,24 +161,6 @@ fn tried_line(work: &mut Work, history: &History, literals: &[TermId]) -> Result
     let wanted = wanted_of(&work.bank, facts.as_slice())?;
     let line = line_of(work, history, goal, wanted.as_slice())?;
     restored(work, history, line, facts.as_slice())
-}
-
-/// Are all of these among others?
-fn are_among(found: &[TermId], literals: &[TermId]) -> bool
-    ensures { result ≡ list_all (λ t. list_any (λ u. nat_eq u.0 t.0) literals.now) found.now }
-{
-    found.iter().all(|t| has_id(literals, *t))
-}
-
-/// Has a line only these literals?
-fn has_only(work: &Work, history: &History, line: u64, literals: &[TermId]) -> bool
-    requires { WorkStands history.now work.now }
-    ensures { result ≡ true → LineHasOnly work.now line (terms_at work.now.bank literals.now) }
-{
-    match work.log.cited(line) {
-        Some(found) => are_among(found, literals),
-        None => false,
-    }
 }
 
 /// The line of a clause that says that a size is an ordinal, or that the size of a nest of accessors is below that of the term

@@ -1,6 +1,5 @@
 //! What is read from lines and terms.
-ghost use Rattle.std.specs.Prelude.{◌≡◌, length, nat_eq, nat_lt};
-ghost use Rattle.std.specs.List.{list_any};
+ghost use Rattle.std.specs.Prelude.{◌≡◌, length, nat_lt};
 
 use crate::halt::Halt;
 use nq_bank::{Bank, Node, Sym, TermId};
@@ -79,13 +78,6 @@ pub fn is_call(bank: &Bank, known: Sym, t: TermId) -> bool {
         Some(f) => f.0 == known.0,
         None => false,
     }
-}
-
-/// Is a term among these?
-pub fn has_id(ids: &[TermId], t: TermId) -> bool
-    ensures { result ≡ list_any (λ u. nat_eq u.0 t.0) ids.now }
-{
-    ids.iter().any(|u| u.0 == t.0)
 }
 
 /// How deep a term is.

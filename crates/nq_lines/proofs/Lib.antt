@@ -16,3 +16,5 @@ pub mod BranchLemmas
 pub mod LawLemmas
 pub mod WeakenLemmas
 pub mod OnlyLemmas
+pub mod PlacedLemmas
+pub mod IdLemmas

@@ -17,7 +17,8 @@ or_true : (a b : Bool) → b ≡ true → a || b ≡ true
 or_true true b e = refl
 or_true false b e = e
 
-has_true : (t : Term) (these : Clause) → IsAmong t these → has_term t these ≡ true
+-- a term among others is found among them
+pub has_true : (t : Term) (these : Clause) → IsAmong t these → has_term t these ≡ true
 has_true t [] m = absurd m
 has_true t (u ∷ these) (inl e) = ap (λ b. b || has_term t these) (true_same t u e)
 has_true t (u ∷ these) (inr m) = or_true _ _ (has_true t these m)

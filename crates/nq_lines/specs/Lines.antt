@@ -58,6 +58,25 @@ ReplacesTo old new line path u side n =
     (first : Term) (change : Term × Term) (these : List Term) → LineLeads old line first these → replaced_at path u first ≡ Some change →
     LineLeads new n change.1 (used_equation side change.0 u ∷ these)
 
+-- literal k of line n, counted from 1, is t
+pub record IsLiteralAt (work : Work) (n k : ℕ) (t : Term) : Type 0 where
+  pub literals : Clause
+  pub holds : LineHolds work n literals
+  pub at : literal_at k literals ≡ Some t
+
+-- t is no literal of line n
+abbrev pub LacksLiteral : Work → ℕ → Term → Type 0
+LacksLiteral work n t = (c : Clause) → LineHolds work n c → IsAmong t c → ⊥
+
+-- line n is another with made and a hypothesis for the literal given
+abbrev pub MakesUnder : Work → Work → Term → Term → Term → ℕ → ℕ → Type 0
+MakesUnder old new given made hypothesis line n = (these : List Term) → LineHasOnly old line (given ∷ these) → LineHasOnly new n (made ∷ hypothesis ∷ these)
+
+-- line n is another with u in the place at a path of a literal, and with the equation
+abbrev pub ReplacesAnywhere : Work → Work → ℕ → Term → List ℕ → Term → Side → ℕ → Type 0
+ReplacesAnywhere old new line literal path u side n =
+    (change : Term × Term) → replaced_at path u literal ≡ Some change → MakesUnder old new literal change.1 (used_equation side change.0 u) line n
+
 -- the equation of t and u that a replacement of t by u uses
 abbrev pub equation_of : Side → Term → Term → Term
 equation_of Forwards t u = equal_term t u

@@ -6,6 +6,7 @@ ghost use Rattle.nq_bank.specs.Content.{term_at};
 ghost use Rattle.nq_kernel.specs.Growing.{WorkStands, WorkGrows, LineStands};
 ghost use Rattle.nq_lines.specs.Lines.{IsTermIn, LineHasOnly, LineLeads, TurnsTo, JoinsTo, MeetsIn};
 
+use crate::placed::replace_right;
 use crate::rewriting::discharge;
 use crate::rules::{equate, opposites, reflexive, replace_first};
 use nq_bank::TermId;
@@ -93,8 +94,8 @@ pub fn joining(
     replace_first(work, history, line, path, v, Side::Forwards)
 }
 
-/// Adds a line with `(EQUAL t v)` from one with `(EQUAL t u)` and one with `(EQUAL u v)`.
-pub fn transitive(
+/// The same as `transitive`, by the line of `joining`.
+fn joined_by_law(
     work: &mut Work,
     history: &History,
     t: TermId,
@@ -117,6 +118,33 @@ pub fn transitive(
     let law = joining(work, history, t, u, v)?;
     let rest = discharge(work, history, Side::Forwards, t, u, law, first)?;
     discharge(work, history, Side::Forwards, u, v, rest, second)
+}
+
+/// Adds a line with `(EQUAL t v)` from one with `(EQUAL t u)` and one with `(EQUAL u v)`.
+pub fn transitive(
+    work: &mut Work,
+    history: &History,
+    t: TermId,
+    u: TermId,
+    v: TermId,
+    first: u64,
+    second: u64,
+) -> Result<u64, Stop>
+    requires stands { WorkStands history.now work.old }
+    requires left { IsTermIn history.now work.old t }
+    requires middle { IsTermIn history.now work.old u }
+    requires right { IsTermIn history.now work.old v }
+    requires first { LineStands work.old first }
+    requires second { LineStands work.old second }
+    ensures line { IfOk result (λ n. JoinsTo work.old work.new (term_at work.old.bank t) (term_at work.old.bank u) (term_at work.old.bank v) first second n) }
+    ensures stands { IfOk result (λ n. LineStands work.new n) }
+    ensures grows { WorkGrows history.now work.old work.new }
+    ensures out { result ≡ Err Stop.OutOfSteps → work.new.counter.used ≡ work.new.counter.limit }
+{
+    match replace_right(work, history, t, u, v, first)? {
+        Some(replaced) => discharge(work, history, Side::Forwards, u, v, replaced, second),
+        None => joined_by_law(work, history, t, u, v, first, second),
+    }
 }
 
 /// Adds a line with `(EQUAL t v)` from one with `(EQUAL t u)` and one with `(EQUAL v u)`.

@@ -203,7 +203,7 @@ fn law_of(
 }
 
 /// The id of a variable.
-fn variable(work: &mut Work, history: &History, name: &[u8]) -> Result<TermId, Stop>
+pub fn variable(work: &mut Work, history: &History, name: &[u8]) -> Result<TermId, Stop>
     requires stands { WorkStands history.now work.old }
     requires name { IsVariable name.now }
     ensures variable { IfOk result (λ t. IsIdOf work.new.bank t (Variable name.now)) }

@@ -8,7 +8,8 @@
 // single rules
 mod rules;
 
-// literals that are rewritten by equations
+// literals that are replaced in the line where they stand, and literals that are rewritten by equations
+mod placed;
 mod rewriting;
 
 // instances of axioms, lemmas and other lines
@@ -38,6 +39,9 @@ mod instantiated;
 mod matched;
 mod openings;
 
+// which literals a line may have
+mod only;
+
 pub use arguments::congruent_all;
 pub use calls::{Equated, argument_at, changed_call, congruent};
 pub use choices::{if_equal_false, if_equal_true, if_same};
@@ -53,8 +57,9 @@ pub use inside::equation_inside;
 pub use instances::{axiom_row, event_instance, event_line, instance, row_line, symbol};
 pub use instantiated::{instance_fact, matched_fact};
 pub use joining::{BranchLines, condition, if_joined, join};
-pub use law::if_law;
+pub use law::{if_law, variable};
 pub use matched::match_pairs;
+pub use only::{has_id, has_only};
 pub use openings::opening;
 pub use rewriting::{discharge, rewrite_denial, rewrite_literal};
 pub use rules::{cut, deny, equate, opposites, reflexive, replace_first, weaken};

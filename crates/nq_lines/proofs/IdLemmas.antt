@@ -1,5 +1,5 @@
--- Lines whose literals were found among others.
-use Rattle.std.proofs.Common.{◌≡◌, ◌⊎◌, ℕ, Bool, true, false, ◌||◌, Some, List, [], ◌∷◌, inl, inr, refl, sym, ap, subst}
+-- Lines whose literals were found among others, by their ids.
+use Rattle.std.proofs.Common.{◌≡◌, ◌⊎◌, ℕ, Bool, true, false, ◌||◌, ◌&&◌, Some, List, [], ◌∷◌, inl, inr, refl, sym, ap, subst}
 use Rattle.std.specs.Prelude.{nat_eq}
 use Rattle.std.specs.List.{list_all, list_any}
 use Rattle.std.specs.Option.{option_map}
@@ -10,7 +10,6 @@ use Rattle.nq_bank.specs.Content.{Content, term_at, terms_at}
 use Rattle.nq_kernel.specs.declared.work.Work.{Work}
 use Rattle.nq_kernel.specs.Lines.{ids_at}
 use Rattle.nq_lines.specs.Lines.{AreAmong, LineHasOnly}
-use Rattle.nq_descents.proofs.OwnLemmas.{left_true, right_true}
 
 -- the same id denotes the same term
 same_id : (bank : Content) (t u : TermId) → nat_eq u.0 t.0 ≡ true → term_at bank t ≡ term_at bank u
@@ -23,6 +22,14 @@ among_ids bank t (u ∷ ids) e = by_test (nat_eq u.0 t.0) (list_any (λ u. nat_e
     by_test : (b r : Bool) → (r ≡ true → IsAmong (term_at bank t) (terms_at bank ids)) → nat_eq u.0 t.0 ≡ b → (b || r) ≡ true → (term_at bank t ≡ term_at bank u) ⊎ IsAmong (term_at bank t) (terms_at bank ids)
     by_test true r rest same h = inl (same_id bank t u same)
     by_test false r rest same h = inr (rest h)
+
+left_true : (a b : Bool) → (a && b) ≡ true → a ≡ true
+left_true true b e = refl
+left_true false b e = e
+
+right_true : (a b : Bool) → (a && b) ≡ true → b ≡ true
+right_true true b e = e
+right_true false b e = absurd cc
 
 all_among : (bank : Content) (found literals : List TermId) → list_all (λ t. list_any (λ u. nat_eq u.0 t.0) literals) found ≡ true → AreAmong (terms_at bank found) (terms_at bank literals)
 all_among bank [] literals e v m = absurd m
