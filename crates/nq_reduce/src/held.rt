@@ -1,9 +1,8 @@
 //! Lines that show terms where others are assumed, and what they make of a term.
 ghost use Rattle.std.specs.Prelude.{◌≡◌, IfOk, IfSome, Err, codes};
-ghost use Rattle.nq_bank.specs.Content.{IsNamed, Stands, term_at, terms_at};
+ghost use Rattle.nq_bank.specs.Content.{term_at, terms_at};
 ghost use Rattle.nq_logic.specs.Words.{not_term};
 ghost use Rattle.nq_kernel.specs.Growing.{WorkGrows};
-ghost use Rattle.nq_lines.specs.Lines.{IsTermIn};
 ghost use Rattle.nq_instances.specs.Parts.{AreSides};
 ghost use Rattle.nq_reduce.specs.Held.{IsHeld};
 ghost use Rattle.nq_reduce.specs.Rewriting.{CanRewrite, IsKnown, IsRewritten};
@@ -12,85 +11,12 @@ use crate::assumptions::false_by_line;
 use crate::branches::known_before;
 use crate::knowledge::{Known, known_truth};
 use crate::results::{Rewritten, unchanged};
-use nq_bank::{Bank, Sym, TermId, ground};
+use nq_bank::{TermId, ground};
 use nq_history::History;
-use nq_instances::{consequence, first_part, rule_instance, second_part, two_in};
+use nq_instances::{consequence, two_in};
 use nq_kernel::{Stop, Work};
 use nq_lines::{Fact, Sides, is_same, opening};
-use nq_rules::{left_side, one_of, two_of};
-
-/// The instance of an axiom or lemma that has a part with this term as its left side.
-pub fn rule_for(
-    work: &mut Work,
-    history: &History,
-    assumed: &[TermId],
-    name: Sym,
-    t: TermId,
-) -> Result<Option<Fact>, Stop>
-    requires can { CanRewrite history.now work.old assumed.now t }
-    requires name { IsNamed work.old.bank name }
-    ensures held { IfOk result (λ found. IfSome found (IsHeld history.now work.new (terms_at work.old.bank assumed.now))) }
-    ensures grows { WorkGrows history.now work.old work.new }
-    ensures out { result ≡ Err Stop.OutOfSteps → work.new.counter.used ≡ work.new.counter.limit }
-{
-    rule_instance(work, history, name, t)
-}
-
-/// Does a term have a part with t as its left side?
-fn leads_to(bank: &Bank, u: TermId, t: TermId) -> bool
-    requires { Stands bank.now u }
-{
-    match two_of(bank, ground::IMPLIES, u) {
-        Some((_, c)) => leads_to(bank, c, t),
-        None => match two_of(bank, ground::AND, u) {
-            Some((p, q)) => leads_to(bank, p, t) || leads_to(bank, q, t),
-            None => left_side(bank, u).0 == t.0,
-        },
-    }
-}
-
-/// The part of a conjunction that has t as its left side.
-pub fn part_for(
-    work: &mut Work,
-    history: &History,
-    assumed: &[TermId],
-    fact: Fact,
-    t: TermId,
-) -> Result<Option<Fact>, Stop>
-    requires can { CanRewrite history.now work.old assumed.now t }
-    requires fact { IsHeld history.now work.old (terms_at work.old.bank assumed.now) fact }
-    ensures held { IfOk result (λ found. IfSome found (IsHeld history.now work.new (terms_at work.old.bank assumed.now))) }
-    ensures grows { WorkGrows history.now work.old work.new }
-    ensures out { result ≡ Err Stop.OutOfSteps → work.new.counter.used ≡ work.new.counter.limit }
-{
-    match two_in(work, history, ground::AND, fact.term) {
-        Some(sides) => part_of(work, history, assumed, fact, sides.left, t),
-        None => Ok(None),
-    }
-}
-
-/// The same, where the first part is known.
-fn part_of(
-    work: &mut Work,
-    history: &History,
-    assumed: &[TermId],
-    fact: Fact,
-    left: TermId,
-    t: TermId,
-) -> Result<Option<Fact>, Stop>
-    requires can { CanRewrite history.now work.old assumed.now t }
-    requires fact { IsHeld history.now work.old (terms_at work.old.bank assumed.now) fact }
-    requires left { IsTermIn history.now work.old left }
-    ensures held { IfOk result (λ found. IfSome found (IsHeld history.now work.new (terms_at work.old.bank assumed.now))) }
-    ensures grows { WorkGrows history.now work.old work.new }
-    ensures out { result ≡ Err Stop.OutOfSteps → work.new.counter.used ≡ work.new.counter.limit }
-{
-    if leads_to(&work.bank, left, t) {
-        first_part(work, history, fact)
-    } else {
-        second_part(work, history, fact)
-    }
-}
+use nq_rules::one_of;
 
 /// What an implication leads to, where its hypothesis is shown.
 pub fn conclusion_for(

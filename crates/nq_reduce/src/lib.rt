@@ -82,7 +82,7 @@ pub use branches::{choose, known_before, with_more};
 pub use congruence::{argument_count, argument_of, congruent};
 pub use dropping::kept_among;
 pub use following::follow;
-pub use held::{conclusion_for, opening_of, part_for, relieved, rewritten_by, rule_for};
+pub use held::{conclusion_for, opening_of, relieved, rewritten_by};
 pub use knowledge::{Known, known_truth};
 pub use reducing::reduce_call;
 pub use restricted::settled;
