@@ -206,7 +206,12 @@ def sizes():
     yield "size_of_pair", found("(EQUAL (COUNT (CONS X Y)) (ADD1 (PLUS (COUNT X) (COUNT Y))))", lemmas=ENDS, rules=[L.inst(A("CONS", 14), {"X1": "X", "X2": "Y"})])
     yield "product_of_positive", under_more(named["product_at_positive"])
 
-TOPICS = [numbers, comparisons, differences, sizes]
+def branches():
+    """IFs whose tests are calls of NOT or IFs"""
+    yield "turned_test", found("(EQUAL (IF (NOT A) X Y) (IF A Y X))", lemmas=ENDS, opens=["NOT"])
+    yield "nested_test", found("(EQUAL (IF (IF A B Z) X Y) (IF A (IF B X Y) (IF Z X Y)))", lemmas=ENDS)
+
+TOPICS = [numbers, comparisons, differences, sizes, branches]
 
 LAWS = """//! The laws of numbers that show facts. They are printed.
 ghost use Rattle.std.specs.Prelude.{◌∷◌, [], IsSome};

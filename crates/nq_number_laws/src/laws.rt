@@ -14,6 +14,7 @@ use crate::tables::fix_is_no_more::FIX_IS_NO_MORE;
 use crate::tables::fix_is_number::FIX_IS_NUMBER;
 use crate::tables::less_is_below::LESS_IS_BELOW;
 use crate::tables::less_is_truth::LESS_IS_TRUTH;
+use crate::tables::nested_test::NESTED_TEST;
 use crate::tables::no_first::NO_FIRST;
 use crate::tables::no_rest::NO_REST;
 use crate::tables::number_is_more::NUMBER_IS_MORE;
@@ -35,6 +36,7 @@ use crate::tables::size_of_number::SIZE_OF_NUMBER;
 use crate::tables::size_of_pair::SIZE_OF_PAIR;
 use crate::tables::size_of_positive::SIZE_OF_POSITIVE;
 use crate::tables::sum_is_number::SUM_IS_NUMBER;
+use crate::tables::turned_test::TURNED_TEST;
 use crate::tables::zero_is_no_more::ZERO_IS_NO_MORE;
 use crate::tables::zero_is_number::ZERO_IS_NUMBER;
 use nq_replay::Law;
@@ -82,6 +84,10 @@ pub enum PlainLaw {
     SizeOfPair,
     /// `(EQUAL (TIMES X Y) (PLUS Y (TIMES (SUB1 X) Y)))`, `(NOT (LESSP 0 X))`.
     ProductOfPositive,
+    /// `(EQUAL (IF (NOT A) X Y) (IF A Y X))`.
+    TurnedTest,
+    /// `(EQUAL (IF (IF A B Z) X Y) (IF A (IF B X Y) (IF Z X Y)))`.
+    NestedTest,
 }
 
 /// A law by induction on a size, which falls where a number gets one less.
@@ -142,6 +148,8 @@ pub fn plain_table(law: PlainLaw) -> Law
         PlainLaw::NoRest => NO_REST,
         PlainLaw::SizeOfPair => SIZE_OF_PAIR,
         PlainLaw::ProductOfPositive => PRODUCT_OF_POSITIVE,
+        PlainLaw::TurnedTest => TURNED_TEST,
+        PlainLaw::NestedTest => NESTED_TEST,
     }
 }
 

@@ -84,3 +84,11 @@ returns-in-SizeOfPair c = refl
 pub returns-in-ProductOfPositive : goal.returns-in-ProductOfPositive
 unfolding law_line law_clause symbols_of number_of tree_depth
 returns-in-ProductOfPositive c = refl
+
+pub returns-in-TurnedTest : goal.returns-in-TurnedTest
+unfolding law_line law_clause symbols_of number_of tree_depth
+returns-in-TurnedTest c = refl
+
+pub returns-in-NestedTest : goal.returns-in-NestedTest
+unfolding law_line law_clause symbols_of number_of tree_depth
+returns-in-NestedTest c = refl
