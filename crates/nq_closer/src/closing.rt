@@ -44,7 +44,7 @@ impl Closer for SearchCloser {
         goal: &[TermId],
     ) -> Result<Option<u64>, Stop> {
         let plan = plan_of(work);
-        let mut tactic = Waterfall::new(SHARE);
+        let mut tactic = Waterfall::new(work.bank.alloc(), SHARE);
         let found = seek(work, &mut tactic, history, hints, plan, goal)?;
         Ok(found)
     }

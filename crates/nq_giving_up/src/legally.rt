@@ -40,10 +40,7 @@ pub fn give_up(
 {
     let mut mover = Legal {
         closer: SearchCloser,
-        rewriter: LiteralRewriter {
-            hints,
-            until: u64::MAX,
-        },
+        rewriter: LiteralRewriter::new(alloc, hints, u64::MAX),
         inductor: OneCase,
     };
     give_up_by(alloc, bank, &mut mover, history, hints, goal, steps)

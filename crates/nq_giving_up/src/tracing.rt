@@ -107,10 +107,7 @@ fn follow_lemma(
     let mut mover = Bounded {
         mover: Legal {
             closer: NoCloser,
-            rewriter: LiteralRewriter {
-                hints,
-                until: u64::MAX,
-            },
+            rewriter: LiteralRewriter::new(alloc, hints, u64::MAX),
             inductor: OneCase,
         },
         until: TRACED_STEPS,

@@ -31,7 +31,7 @@ use nq_waterfall::laws::holding;
 use nq_waterfall::{Ancestor, Lead, Mover, Turn};
 
 /// Moves goals by legal moves alone.
-#[derive(Clone, Copy)]
+#[derive(Drop)]
 pub struct Legal<C, R, I> {
     /// What closes goals that a move led to proved ones, where no way back is kept of the move.
     pub closer: C,

@@ -9,7 +9,7 @@ use nq_bank::{TermId, ground};
 use nq_history::{Hints, History};
 use nq_kernel::{Stop, Work};
 use nq_reduce::{Rewritten, argument_of, congruent, follow, unchanged};
-use nq_rewrite::rewritten;
+use nq_rewrite::{Learnt, rewritten};
 use nq_rules::one_of;
 
 /// Rewrites a literal where these are assumed. A literal `(NOT p)` keeps its NOT, unless p becomes a value.
@@ -17,6 +17,7 @@ pub fn rewrite_literal(
     work: &mut Work,
     history: &History,
     hints: &Hints,
+    learnt: &mut Learnt,
     assumed: &[TermId],
     t: TermId,
 ) -> Result<Rewritten, Stop>
@@ -26,8 +27,8 @@ pub fn rewrite_literal(
     ensures out { result ≡ Err Stop.OutOfSteps → work.new.counter.used ≡ work.new.counter.limit }
 {
     match one_of(&work.bank, ground::NOT, t) {
-        Some(_) => rewrite_denial(work, history, hints, assumed, t),
-        None => rewritten(work, history, hints, assumed, t),
+        Some(_) => rewrite_denial(work, history, hints, learnt, assumed, t),
+        None => rewritten(work, history, hints, learnt, assumed, t),
     }
 }
 
@@ -36,6 +37,7 @@ fn rewrite_denial(
     work: &mut Work,
     history: &History,
     hints: &Hints,
+    learnt: &mut Learnt,
     assumed: &[TermId],
     t: TermId,
 ) -> Result<Rewritten, Stop>
@@ -45,7 +47,7 @@ fn rewrite_denial(
     ensures out { result ≡ Err Stop.OutOfSteps → work.new.counter.used ≡ work.new.counter.limit }
 {
     match argument_of(work, history, t, 1) {
-        Some(p) => rewrite_denied(work, history, hints, assumed, t, p),
+        Some(p) => rewrite_denied(work, history, hints, learnt, assumed, t, p),
         None => Ok(unchanged(t)),
     }
 }
@@ -55,6 +57,7 @@ fn rewrite_denied(
     work: &mut Work,
     history: &History,
     hints: &Hints,
+    learnt: &mut Learnt,
     assumed: &[TermId],
     t: TermId,
     p: TermId,
@@ -65,9 +68,18 @@ fn rewrite_denied(
     ensures grows { WorkGrows history.now work.old work.new }
     ensures out { result ≡ Err Stop.OutOfSteps → work.new.counter.used ≡ work.new.counter.limit }
 {
-    let inside = rewritten(work, history, hints, assumed, p)?;
+    let inside = rewritten(work, history, hints, learnt, assumed, p)?;
     let denial = congruent(work, history, assumed, t, 1, p, inside)?;
-    rewrite_outside(work, history, hints, assumed, t, denial, inside.term)
+    rewrite_outside(
+        work,
+        history,
+        hints,
+        learnt,
+        assumed,
+        t,
+        denial,
+        inside.term,
+    )
 }
 
 /// The same, where a literal was rewritten to the NOT of a term: that of a value is rewritten.
@@ -75,6 +87,7 @@ fn rewrite_outside(
     work: &mut Work,
     history: &History,
     hints: &Hints,
+    learnt: &mut Learnt,
     assumed: &[TermId],
     t: TermId,
     denial: Rewritten,
@@ -88,7 +101,7 @@ fn rewrite_outside(
     ensures out { result ≡ Err Stop.OutOfSteps → work.new.counter.used ≡ work.new.counter.limit }
 {
     if work.bank.is_value(p) {
-        let rest = rewritten(work, history, hints, assumed, denial.term)?;
+        let rest = rewritten(work, history, hints, learnt, assumed, denial.term)?;
         follow(work, history, assumed, t, denial, rest)
     } else {
         Ok(denial)

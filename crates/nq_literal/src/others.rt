@@ -13,6 +13,7 @@ use nq_history::{Hints, History};
 use nq_kernel::{Stop, Work};
 use nq_lines::{deny, undeny};
 use nq_reduce::{Rewritten, with_more};
+use nq_rewrite::Learnt;
 use nq_rules::one_of;
 
 /// Rewrites a literal under the negations of the others from a place on, where these are assumed too.
@@ -21,6 +22,7 @@ pub fn rewrite_from(
     work: &mut Work,
     history: &History,
     hints: &Hints,
+    learnt: &mut Learnt,
     others: &[TermId],
     place: usize,
     assumed: &[TermId],
@@ -33,9 +35,9 @@ pub fn rewrite_from(
     ensures out { result ≡ Err Stop.OutOfSteps → work.new.counter.used ≡ work.new.counter.limit }
 {
     if place < others.len() {
-        rewrite_under(work, history, hints, others, place, assumed, t)
+        rewrite_under(work, history, hints, learnt, others, place, assumed, t)
     } else {
-        rewrite_literal(work, history, hints, assumed, t)
+        rewrite_literal(work, history, hints, learnt, assumed, t)
     }
 }
 
@@ -45,6 +47,7 @@ fn rewrite_under(
     work: &mut Work,
     history: &History,
     hints: &Hints,
+    learnt: &mut Learnt,
     others: &[TermId],
     place: usize,
     assumed: &[TermId],
@@ -58,8 +61,8 @@ fn rewrite_under(
     ensures out { result ≡ Err Stop.OutOfSteps → work.new.counter.used ≡ work.new.counter.limit }
 {
     match denied_at(work, history, others, place) {
-        Some(a) => rewrite_with(work, history, hints, others, place, assumed, a, t),
-        None => rewrite_denying(work, history, hints, others, place, assumed, t),
+        Some(a) => rewrite_with(work, history, hints, learnt, others, place, assumed, a, t),
+        None => rewrite_denying(work, history, hints, learnt, others, place, assumed, t),
     }
 }
 
@@ -69,6 +72,7 @@ fn rewrite_with(
     work: &mut Work,
     history: &History,
     hints: &Hints,
+    learnt: &mut Learnt,
     others: &[TermId],
     place: usize,
     assumed: &[TermId],
@@ -84,7 +88,16 @@ fn rewrite_with(
     ensures out { result ≡ Err Stop.OutOfSteps → work.new.counter.used ≡ work.new.counter.limit }
 {
     let all = with_more(work, more, assumed)?;
-    rewrite_from(work, history, hints, others, place + 1, all.as_slice(), t)
+    rewrite_from(
+        work,
+        history,
+        hints,
+        learnt,
+        others,
+        place + 1,
+        all.as_slice(),
+        t,
+    )
 }
 
 /// The same, where the NOT of the literal is assumed.
@@ -93,6 +106,7 @@ fn rewrite_denying(
     work: &mut Work,
     history: &History,
     hints: &Hints,
+    learnt: &mut Learnt,
     others: &[TermId],
     place: usize,
     assumed: &[TermId],
@@ -107,7 +121,9 @@ fn rewrite_denying(
 {
     let literal = others[place];
     let denied = deny(work, history, literal)?;
-    let new = rewrite_with(work, history, hints, others, place, assumed, denied, t)?;
+    let new = rewrite_with(
+        work, history, hints, learnt, others, place, assumed, denied, t,
+    )?;
     undenied(work, history, literal, t, new)
 }
 

@@ -14,15 +14,30 @@ use nq_bank::TermId;
 use nq_history::{Hints, History};
 use nq_kernel::{Stop, Work};
 use nq_reduce::Rewritten;
+use nq_rewrite::Learnt;
 use nq_simplify::{NewLiteral, Rewriter};
+use std::alloc::Global;
 
 /// Rewrites the literals of a goal as these hints ask.
-#[derive(Clone, Copy)]
+#[derive(Drop)]
 pub struct LiteralRewriter<'a> {
     /// The hints.
     pub hints: &'a Hints,
     /// The count of used steps from which on no literal is rewritten.
     pub until: u64,
+    /// What the rewritings of this proof learnt.
+    pub learnt: Learnt,
+}
+
+impl<'a> LiteralRewriter<'a> {
+    /// A rewriter as these hints ask, which rewrites no literal from this count of used steps on. Nothing is learnt yet.
+    pub fn new(alloc: Global, hints: &'a Hints, until: u64) -> LiteralRewriter<'a> {
+        LiteralRewriter {
+            hints,
+            until,
+            learnt: Learnt::new(alloc),
+        }
+    }
 }
 
 impl<'a> Rewriter for LiteralRewriter<'a> {
@@ -36,7 +51,7 @@ impl<'a> Rewriter for LiteralRewriter<'a> {
         if is_past(work, self.until) {
             return Ok(None);
         }
-        rewrite_beside(work, history, self.hints, others, literal)
+        rewrite_beside(work, history, self.hints, &mut self.learnt, others, literal)
     }
 }
 
@@ -50,6 +65,7 @@ fn rewrite_beside(
     work: &mut Work,
     history: &History,
     hints: &Hints,
+    learnt: &mut Learnt,
     others: &[TermId],
     literal: TermId,
 ) -> Result<Option<NewLiteral>, Stop>
@@ -63,7 +79,7 @@ fn rewrite_beside(
 {
     match closed_by_truth(work, history, others, literal)? {
         Some(new) => Ok(Some(new)),
-        None => rewrite_open(work, history, hints, others, literal),
+        None => rewrite_open(work, history, hints, learnt, others, literal),
     }
 }
 
@@ -72,6 +88,7 @@ fn rewrite_open(
     work: &mut Work,
     history: &History,
     hints: &Hints,
+    learnt: &mut Learnt,
     others: &[TermId],
     literal: TermId,
 ) -> Result<Option<NewLiteral>, Stop>
@@ -83,7 +100,7 @@ fn rewrite_open(
     ensures grows { WorkGrows history.now work.old work.new }
     ensures out { result ≡ Err Stop.OutOfSteps → work.new.counter.used ≡ work.new.counter.limit }
 {
-    let new = rewrite_from(work, history, hints, others, 0, &[], literal)?;
+    let new = rewrite_from(work, history, hints, learnt, others, 0, &[], literal)?;
     Ok(changed(literal, new))
 }
 

@@ -1,3 +1,4 @@
 mod StepLemmas
 mod KindLemmas
+mod ConditionLemmas
 mod ArithmeticLemmas

@@ -5,6 +5,7 @@ ghost use Rattle.nq_kernel.specs.Growing.{WorkGrows, WorkStands};
 ghost use Rattle.nq_lines.specs.Lines.{IsTermIn};
 ghost use Rattle.nq_reduce.specs.Rewriting.{CanRewrite, IsRewritten, ShowsEqual};
 
+use crate::learnt::Learnt;
 use crate::rewriting::rewrite_term;
 use crate::rules::{Rules, make_rules};
 use crate::search::Search;
@@ -16,6 +17,7 @@ use nq_kernel::{Stop, Work};
 use nq_lines::reflexive;
 use nq_reduce::Rewritten;
 use std::alloc::AllocError;
+use std::mem;
 
 /// The terms that stand in a term and in what is assumed, where only memory can be wanting.
 fn terms_in(
@@ -61,12 +63,14 @@ fn rules_of(work: &Work, history: &History, hints: &Hints) -> Result<Rules, Stop
     }
 }
 
-/// Rewrites a term by these rules, where these are assumed. Where nothing changes there is no line.
-pub fn rewrite_by(
+/// Rewrites a term by these rules, where these are assumed, with what was learnt in the same proof. Where nothing changes there is no
+/// line.
+fn rewrite_by(
     work: &mut Work,
     history: &History,
     hints: &Hints,
     rules: &Rules,
+    learnt: &mut Learnt,
     assumed: &[TermId],
     t: TermId,
 ) -> Result<Rewritten, Stop>
@@ -78,6 +82,7 @@ pub fn rewrite_by(
     let alloc = work.bank.alloc();
     let goal = goal_of(work, history, assumed, t)?;
     let mut search = Search::new(alloc);
+    mem::swap(learnt, &mut search.learnt);
     let way = Way {
         hints,
         rules,
@@ -88,14 +93,17 @@ pub fn rewrite_by(
         asked: false,
         mark: 0,
     };
-    rewrite_term(work, history, &way, &mut search, assumed, 0, t)
+    let new = rewrite_term(work, history, &way, &mut search, assumed, 0, t)?;
+    mem::swap(learnt, &mut search.learnt);
+    Ok(new)
 }
 
-/// Rewrites a term where these are assumed. Where nothing changes there is no line.
+/// Rewrites a term where these are assumed, with what was learnt in the same proof. Where nothing changes there is no line.
 pub fn rewritten(
     work: &mut Work,
     history: &History,
     hints: &Hints,
+    learnt: &mut Learnt,
     assumed: &[TermId],
     t: TermId,
 ) -> Result<Rewritten, Stop>
@@ -105,7 +113,7 @@ pub fn rewritten(
     ensures out { result ≡ Err Stop.OutOfSteps → work.new.counter.used ≡ work.new.counter.limit }
 {
     let rules = rules_of(work, history, hints)?;
-    rewrite_by(work, history, hints, &rules, assumed, t)
+    rewrite_by(work, history, hints, &rules, learnt, assumed, t)
 }
 
 /// Rewrites a term where these are assumed. The line has only the equation of the term and the new one, and the NOTs of what
@@ -123,7 +131,8 @@ pub fn rewrite(
     ensures grows { WorkGrows history.now work.old work.new }
     ensures out { result ≡ Err Stop.OutOfSteps → work.new.counter.used ≡ work.new.counter.limit }
 {
-    let new = rewritten(work, history, hints, assumed, t)?;
+    let mut learnt = Learnt::new(work.bank.alloc());
+    let new = rewritten(work, history, hints, &mut learnt, assumed, t)?;
     let line = line_of(work, history, assumed, t, new)?;
     Ok((new.term, line))
 }

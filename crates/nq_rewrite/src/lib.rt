@@ -17,6 +17,7 @@ mod rules;
 mod measures;
 
 // what a rewriting stands within, and what it learns
+mod learnt;
 mod search;
 mod way;
 
@@ -38,6 +39,9 @@ mod parts;
 // equations of truth values
 mod comparing;
 
+// laws of IF
+mod conditions;
+
 // single steps
 mod steps;
 
@@ -57,8 +61,9 @@ mod testing;
 // the rewriter
 mod entrance;
 
-pub use entrance::{rewrite, rewrite_by, rewritten};
+pub use entrance::{rewrite, rewritten};
 pub use kinds::{kind_fact, kind_line, known_recognizer, named_function, one_call};
+pub use learnt::Learnt;
 pub use rules::{Rules, make_rules};
 pub use telling::is_constructor;
 pub use told_kinds::told_kind;

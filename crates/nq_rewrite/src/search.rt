@@ -2,7 +2,7 @@
 ghost use Rattle.std.specs.Prelude.{◌≡◌, Err};
 ghost use Rattle.nq_bank.specs.Content.{Stands};
 
-use crate::terms::{MARK_LIMIT, variables_of};
+use crate::learnt::Learnt;
 use nq_bank::{Bank, TermId};
 use nq_kernel::Stop;
 use std::alloc::Global;
@@ -14,9 +14,9 @@ const FACTOR: u64 = 0x9E37_79B9_7F4A_7C15;
 /// A number for each kind of mark. They lie far apart, so that marks of two kinds are not one, whatever small numbers stand in them.
 const TERM: u64 = 0x6A09_E667_F3BC_C908;
 
-const OPENING: u64 = 0xBB67_AE85_84CA_A73B;
+/// The number of the marks of what is assumed.
+pub const ASSUMED: u64 = 0x3C6E_F372_FE94_F82B;
 
-const ASSUMED: u64 = 0x3C6E_F372_FE94_F82B;
 /// The number of the marks of what is within a hypothesis that is being relieved.
 pub const RELIEVED: u64 = 0xA54F_F53A_5F1D_36F1;
 /// The number of the marks of what is within the body of a function.
@@ -27,9 +27,6 @@ pub const QUESTION: u64 = 0x9B05_688C_2B3E_6C1F;
 
 /// The number of the marks of what arithmetic was asked about.
 pub const NUMBERS: u64 = 0x1F83_D9AB_FB41_BD6B;
-
-/// How many nodes a test of a body may have beside those of the call.
-const TEST_NODES: u64 = 4;
 
 /// A mark with one more number in it.
 pub fn mixed(mark: u64, more: u64) -> u64 {
@@ -48,8 +45,8 @@ pub struct Search {
     bound: bool,
     /// The marks of terms that nothing rewrites, with what is assumed and with what they stand within.
     settled: HashMap<u64, bool>,
-    /// The variables of terms that were looked at.
-    variables: HashMap<u64, u64>,
+    /// What serves later rewritings too.
+    pub learnt: Learnt,
 }
 
 impl Search {
@@ -60,21 +57,8 @@ impl Search {
             asked: 0,
             bound: false,
             settled: HashMap::new(alloc),
-            variables: HashMap::new(alloc),
+            learnt: Learnt::new(alloc),
         }
-    }
-
-    /// The variables of a term, each as one of 64 bits, and all bits where the term is not walked. They are kept; where memory is
-    /// wanting they are looked for again.
-    fn variables_of(&mut self, bank: &Bank, t: TermId) -> u64
-        requires { Stands bank.now t }
-    {
-        if let Some(variables) = self.variables.get(&t.0) {
-            return *variables;
-        }
-        let variables = variables_of(bank, t);
-        let _ = self.variables.insert(t.0, variables);
-        variables
     }
 
     /// The mark of a term where these are assumed. Only the assumptions count that share a variable with it: the others have no part
@@ -82,41 +66,14 @@ impl Search {
     pub fn mark_of(&mut self, bank: &Bank, assumed: &[TermId], t: TermId) -> u64
         requires { Stands bank.now t }
     {
-        let variables = self.variables_of(bank, t);
+        let variables = self.learnt.variables_of(bank, t);
         let mut sum: u64 = 0;
         for a in assumed {
-            if a.0 < bank.len() && self.variables_of(bank, *a) & variables != 0 {
+            if a.0 < bank.len() && self.learnt.variables_of(bank, *a) & variables != 0 {
                 sum = sum.wrapping_add(mixed(ASSUMED, a.0));
             }
         }
         mixed(mixed(TERM, t.0), sum)
-    }
-
-    /// The mark of a call that is opened where these are assumed. The tests of its body are about what stands in it, and so only the
-    /// assumptions count that have no other variables and are hardly larger.
-    pub fn mark_of_opening(&mut self, bank: &Bank, assumed: &[TermId], t: TermId) -> u64
-        requires { Stands bank.now t }
-    {
-        let variables = self.variables_of(bank, t);
-        let nodes = bank.size(t).saturating_add(TEST_NODES);
-        let mut sum: u64 = 0;
-        for a in assumed {
-            if self.is_all_in(bank, variables, nodes, *a) {
-                sum = sum.wrapping_add(mixed(ASSUMED, a.0));
-            }
-        }
-        mixed(mixed(OPENING, t.0), sum)
-    }
-
-    /// Has a term only these variables, and at most so many nodes?
-    fn is_all_in(&mut self, bank: &Bank, variables: u64, nodes: u64, t: TermId) -> bool {
-        if t.0 < bank.len() {
-            bank.size(t) <= nodes
-                && bank.size(t) < MARK_LIMIT
-                && self.variables_of(bank, t) & !variables == 0
-        } else {
-            false
-        }
     }
 
     /// Is what has this mark settled?

@@ -9,12 +9,15 @@ ghost use Rattle.nq_lines.specs.Lines.{IsTermIn};
 ghost use Rattle.nq_reduce.specs.Rewriting.{CanRewrite, IsKnown, IsRewritten};
 
 use crate::arithmetic::known_by_arithmetic;
+use crate::conditions::{TestLaw, by_test_law};
+use crate::outside::rewrite_on;
 use crate::reducing::try_rules;
 use crate::rewriting::rewrite_term;
 use crate::search::Search;
 use crate::steps::{doubled, known_by_fact, test_of, undoubled, with_test};
+use crate::terms::is_call_of;
 use crate::way::{Way, is_idle};
-use nq_bank::TermId;
+use nq_bank::{TermId, ground};
 use nq_history::History;
 use nq_instances::if_parts_of;
 use nq_kernel::{Stop, Work};
@@ -41,8 +44,35 @@ pub fn rewrite_if(
     ensures grows { WorkGrows history.now work.old work.new }
     ensures out { result ≡ Err Stop.OutOfSteps → work.new.counter.used ≡ work.new.counter.limit }
 {
+    if is_call_of(&work.bank, ground::NOT, parts.test) {
+        return rewrite_turned(work, history, way, search, assumed, depth, t);
+    }
     let test = rewrite_term(work, history, way, search, assumed, depth + 1, parts.test)?;
     rewrite_tested(work, history, way, search, assumed, depth, t, parts, test)
+}
+
+/// Rewrites an IF whose test is a NOT by the IF of what that denies.
+#[cycle(rewriting)]
+fn rewrite_turned(
+    work: &mut Work,
+    history: &History,
+    way: &Way<'_>,
+    search: &mut Search,
+    assumed: &[TermId],
+    depth: u32,
+    t: TermId,
+) -> Result<Rewritten, Stop>
+    requires depth { depth ≤ depth_limit }
+    requires can { CanRewrite history.now work.old assumed.now t }
+    ensures ok { IfOk result (λ r. IsRewritten history.now work.new (terms_at work.old.bank assumed.now) (term_at work.old.bank t) r) }
+    ensures grows { WorkGrows history.now work.old work.new }
+    ensures out { result ≡ Err Stop.OutOfSteps → work.new.counter.used ≡ work.new.counter.limit }
+{
+    let step = by_test_law(work, history, search, assumed, TestLaw::Turned, t)?;
+    match step.line {
+        Some(_) => rewrite_on(work, history, way, search, assumed, depth, t, step),
+        None => Ok(step),
+    }
 }
 
 /// Rewrites the branches of an IF whose test was rewritten: the one that is taken, or both.
@@ -204,8 +234,34 @@ fn rewrite_nested(
     ensures out { result ≡ Err Stop.OutOfSteps → work.new.counter.used ≡ work.new.counter.limit }
 {
     let whole = with_test(work, history, assumed, t, parts, test)?;
-    let rest = rewrite_divided(work, history, way, search, assumed, depth, whole.term, p)?;
+    let rest = rewrite_spread(work, history, way, search, assumed, depth, whole.term, p)?;
     follow(work, history, assumed, t, whole, rest)
+}
+
+/// Rewrites an IF whose test is an IF by the law of such IFs, or else divided by the test of that one.
+#[cycle(rewriting)]
+fn rewrite_spread(
+    work: &mut Work,
+    history: &History,
+    way: &Way<'_>,
+    search: &mut Search,
+    assumed: &[TermId],
+    depth: u32,
+    t: TermId,
+    p: TermId,
+) -> Result<Rewritten, Stop>
+    requires depth { depth ≤ depth_limit }
+    requires can { CanRewrite history.now work.old assumed.now t }
+    requires by { IsTermIn history.now work.old p }
+    ensures ok { IfOk result (λ r. IsRewritten history.now work.new (terms_at work.old.bank assumed.now) (term_at work.old.bank t) r) }
+    ensures grows { WorkGrows history.now work.old work.new }
+    ensures out { result ≡ Err Stop.OutOfSteps → work.new.counter.used ≡ work.new.counter.limit }
+{
+    let step = by_test_law(work, history, search, assumed, TestLaw::Nested, t)?;
+    match step.line {
+        Some(_) => rewrite_on(work, history, way, search, assumed, depth, t, step),
+        None => rewrite_divided(work, history, way, search, assumed, depth, t, p),
+    }
 }
 
 /// Rewrites a term where a test is true and where it is false, and joins the two.

@@ -1,7 +1,8 @@
 //! The search for a line of a goal, depth first, with going back to other ways of the same goal.
-ghost use Rattle.std.specs.Prelude.{◌≡◌, ◌+◌, ◌<◌, ◌++◌, ◌∷◌, [], All, IfOk, OnOk, Err};
+ghost use Rattle.std.specs.Prelude.{◌≡◌, ◌+◌, ◌<◌, ◌++◌, ◌∷◌, [], All, IfOk, IfSome, OnOk, Err};
 ghost use Rattle.nq_bank.specs.Content.{terms_at};
 ghost use Rattle.nq_kernel.specs.Growing.{WorkStands, WorkGrows};
+ghost use Rattle.nq_lines.specs.Lines.{LineHasOnly};
 ghost use Rattle.nq_search.specs.Goals.{CanSearch, IsGoalIn, goals_at};
 ghost use Rattle.nq_search.specs.Searching.{IsFound, AreFound, IsLed};
 
@@ -10,6 +11,7 @@ use crate::tactic::{Led, Tactic};
 use nq_bank::TermId;
 use nq_history::{Hints, History};
 use nq_kernel::{Stop, Work, ready_histories};
+use nq_lines::has_only;
 
 /// The plan behind one more way.
 fn lower(plan: Plan) -> Plan
@@ -38,6 +40,30 @@ fn push(lines: &mut Vec<u64>, line: u64) -> Result<(), Stop>
     }
 }
 
+/// The line that was found of a goal before, if it has only literals of the goal.
+fn recalled<T: Tactic>(work: &Work, tactic: &T, history: &History, goal: &[TermId]) -> Option<u64>
+    requires { WorkStands history.now work.now }
+    ensures { IfSome result (λ n. LineHasOnly work.now n (terms_at work.now.bank goal.now)) }
+{
+    match tactic.recall(goal) {
+        Some(line) => {
+            if has_only(work, history, line, goal) {
+                Some(line)
+            } else {
+                None
+            }
+        }
+        None => None,
+    }
+}
+
+/// Keeps in mind what was found of a goal.
+fn remember<T: Tactic>(tactic: &mut T, goal: &[TermId], found: Option<u64>) {
+    if let Some(line) = found {
+        tactic.remember(goal, line);
+    }
+}
+
 /// Seeks a line of a goal.
 #[cycle(searching)]
 pub fn seek<T: Tactic>(
@@ -57,8 +83,31 @@ pub fn seek<T: Tactic>(
     if plan.levels == 0 {
         return Ok(None);
     }
-    let below = lower(plan);
-    seek_turns(work, tactic, history, hints, below, goal)
+    match recalled(work, tactic, history, goal) {
+        Some(line) => Ok(Some(line)),
+        None => seek_anew(work, tactic, history, hints, lower(plan), goal),
+    }
+}
+
+/// Seeks a line of a goal of which none was found before.
+#[cycle(searching)]
+fn seek_anew<T: Tactic>(
+    work: &mut Work,
+    tactic: &mut T,
+    history: &History,
+    hints: &Hints,
+    plan: Plan,
+    goal: &[TermId],
+) -> Result<Option<u64>, Stop>
+    requires ready { CanSearch history.now hints.now work.old }
+    requires goal { IsGoalIn history.now work.old goal.now }
+    ensures found { IfOk result (IsFound work.new (terms_at work.old.bank goal.now)) }
+    ensures grows { WorkGrows history.now work.old work.new }
+    ensures out { result ≡ Err Stop.OutOfSteps → work.new.counter.used ≡ work.new.counter.limit }
+{
+    let found = seek_turns(work, tactic, history, hints, plan, goal)?;
+    remember(tactic, goal, found);
+    Ok(found)
 }
 
 /// Seeks a line of a goal by one way after the other.

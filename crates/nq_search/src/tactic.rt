@@ -35,6 +35,12 @@ pub trait Tactic {
     /// That a way serves to go back from lines of its goals to a line of this one.
     ghost is_way: { List Entry → Work → List TermId → Self.Way → Type 0 };
 
+    /// A line that may have only literals of a goal, if one was found before. It is a guess, which a test decides.
+    fn recall(&self, goal: &[TermId]) -> Option<u64>;
+
+    /// Keeps in mind which line was found of a goal.
+    fn remember(&mut self, goal: &[TermId], line: u64);
+
     /// The goals to which a way leads.
     fn nexts(way: &Self::Way) -> &[Vec<TermId>]
         ensures { result.now ≡ nexts_of way.now };

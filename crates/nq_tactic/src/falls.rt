@@ -245,7 +245,14 @@ fn learn_line(
 {
     ready_histories();
     let plan = plan_of_fall(work);
-    match seek(work, &mut Waterfall::new(7), history, hints, plan, goal)? {
+    match seek(
+        work,
+        &mut Waterfall::new(work.bank.alloc(), 7),
+        history,
+        hints,
+        plan,
+        goal,
+    )? {
         Some(line) => {
             remember(work, history, f, line)?;
             Ok(())

@@ -22,13 +22,15 @@ use nq_history::{Hints, History};
 use nq_kernel::{MoveKind, Stop, Work};
 use nq_moves::{Moved, fertilize_move, irrelevant_move, substitute_move};
 use nq_ready::own_terms;
+use nq_rewrite::Learnt;
 use nq_search::{Led, Plan};
 
-/// Leads a goal on by its simplification, and with this plan.
+/// Leads a goal on by its simplification, with what was learnt in the same proof, and with this plan.
 pub fn lead_simplified(
     work: &mut Work,
     history: &History,
     hints: &Hints,
+    learnt: &mut Learnt,
     goal: &[TermId],
     plan: Plan,
 ) -> Result<Led<Way>, Stop>
@@ -38,7 +40,7 @@ pub fn lead_simplified(
     ensures grows { WorkGrows history.now work.old work.new }
     ensures out { result ≡ Err Stop.OutOfSteps → work.new.counter.used ≡ work.new.counter.limit }
 {
-    let way = simplified(work, history, hints, goal)?;
+    let way = simplified(work, history, hints, learnt, goal)?;
     Ok(Led {
         way: Way::Simplified(way),
         plan,

@@ -99,13 +99,15 @@ fn seek_after_falls(
 {
     ready_histories();
     learn_falls(work, history, hints, goal)?;
-    seek_widening(work, history, hints, 0, goal)
+    let mut tactic = Waterfall::new(work.bank.alloc(), 0);
+    seek_widening(work, &mut tactic, history, hints, 0, goal)
 }
 
 /// Seeks a line of a goal by one round after the other, from this one on.
 #[cycle(rounds)]
 fn seek_widening(
     work: &mut Work,
+    tactic: &mut Waterfall,
     history: &History,
     hints: &Hints,
     number: u32,
@@ -119,7 +121,7 @@ fn seek_widening(
 {
     ready_histories();
     match round_of(number) {
-        Some(round) => seek_round(work, history, hints, number, round, goal),
+        Some(round) => seek_round(work, tactic, history, hints, number, round, goal),
         None => Ok(None),
     }
 }
@@ -128,6 +130,7 @@ fn seek_widening(
 #[cycle(rounds)]
 fn seek_round(
     work: &mut Work,
+    tactic: &mut Waterfall,
     history: &History,
     hints: &Hints,
     number: u32,
@@ -146,16 +149,10 @@ fn seek_round(
     let before = work.counter.used();
     let limit = work.counter.limit();
     let plan = plan_until(before.saturating_add(limit / round.part).min(limit));
-    match seek(
-        work,
-        &mut Waterfall::new(round.share),
-        history,
-        hints,
-        plan,
-        goal,
-    )? {
+    tactic.give(round.share);
+    match seek(work, tactic, history, hints, plan, goal)? {
         Some(line) => Ok(Some(line)),
-        None => seek_again(work, history, hints, number, goal, before),
+        None => seek_again(work, tactic, history, hints, number, goal, before),
     }
 }
 
@@ -163,6 +160,7 @@ fn seek_round(
 #[cycle(rounds)]
 fn seek_again(
     work: &mut Work,
+    tactic: &mut Waterfall,
     history: &History,
     hints: &Hints,
     number: u32,
@@ -179,7 +177,7 @@ fn seek_again(
     if is_exhausted(work, before) {
         return Ok(None);
     }
-    seek_widening(work, history, hints, number + 1, goal)
+    seek_widening(work, tactic, history, hints, number + 1, goal)
 }
 
 /// Seeks a line of a lemma.

@@ -31,7 +31,8 @@ mod lightly;
 mod order;
 mod substitutions;
 
-// the tactic
+// the tactic, and which lines it found
+mod remembered;
 mod tactic;
 
 // instances that hints name

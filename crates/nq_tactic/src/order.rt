@@ -7,7 +7,7 @@ use nq_search::Plan;
 pub const INDUCTIONS: u32 = 4;
 
 /// How many eliminations may follow one another before an induction.
-const ELIMINATIONS: u32 = 3;
+const ELIMINATIONS: u32 = 5;
 
 /// How many ways of a goal are tried.
 pub const TURNS: u32 = 10;

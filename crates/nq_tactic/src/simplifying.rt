@@ -11,7 +11,9 @@ use nq_history::{Hints, History};
 use nq_kernel::{Stop, Work};
 use nq_literal::LiteralRewriter;
 use nq_ready::own_terms;
+use nq_rewrite::Learnt;
 use nq_simplify::{Simplified, make_basis, simplify_goal};
+use std::mem;
 
 /// How many literals may be rewritten in a row.
 const ROUNDS: u64 = 120;
@@ -26,11 +28,12 @@ fn until_of(work: &Work) -> u64 {
         .saturating_add(work.counter.limit() / SIMPLIFYING_PART)
 }
 
-/// Simplifies a goal.
+/// Simplifies a goal, with what was learnt in the same proof.
 pub fn simplified(
     work: &mut Work,
     history: &History,
     hints: &Hints,
+    learnt: &mut Learnt,
     goal: &[TermId],
 ) -> Result<Simplified, Stop>
     requires can { CanSearch history.now hints.now work.old }
@@ -42,8 +45,11 @@ pub fn simplified(
     own_terms();
     let basis = make_basis(work, history)?;
     let until = until_of(work);
-    let mut rewriter = LiteralRewriter { hints, until };
-    simplify_goal(work, history, &basis, &mut rewriter, goal, ROUNDS)
+    let mut rewriter = LiteralRewriter::new(work.bank.alloc(), hints, until);
+    mem::swap(learnt, &mut rewriter.learnt);
+    let simplified = simplify_goal(work, history, &basis, &mut rewriter, goal, ROUNDS);
+    mem::swap(learnt, &mut rewriter.learnt);
+    simplified
 }
 
 /// Takes a goal apart: it is simplified without rules, and no recursive function is opened.
@@ -63,9 +69,6 @@ pub fn parted(
     let light = light_hints(work, history, hints)?;
     let basis = make_basis(work, history)?;
     let until = until_of(work);
-    let mut rewriter = LiteralRewriter {
-        hints: &light,
-        until,
-    };
+    let mut rewriter = LiteralRewriter::new(work.bank.alloc(), &light, until);
     simplify_goal(work, history, &basis, &mut rewriter, goal, ROUNDS)
 }

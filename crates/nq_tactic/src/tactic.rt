@@ -10,24 +10,40 @@ use crate::eliminating::lead_eliminated;
 use crate::inducting::{lead_hinted, lead_inducted};
 use crate::leading::{lead_apart, lead_moved, lead_refuted, lead_simplified};
 use crate::order::{Choice, choice_of, plan_after_induction, plan_after_move, share};
+use crate::remembered::Remembered;
 use crate::substitutions::is_substituted;
 use crate::way::{Way, nexts_of};
 use nq_bank::TermId;
 use nq_history::{Hints, History};
 use nq_kernel::{MoveKind, Stop, Work};
+use nq_rewrite::Learnt;
 use nq_search::{Led, Plan, Tactic};
+use std::alloc::Global;
 
 /// The waterfall: a goal is simplified, refuted by linear arithmetic, led on by moves, and by inductions.
-#[derive(Clone, Copy, Debug)]
+#[derive(Drop)]
 pub struct Waterfall {
     /// The share, in tenths, of the steps that a way gets where others follow.
     share: u64,
+    /// What the rewritings learnt.
+    learnt: Learnt,
+    /// The lines that were found.
+    remembered: Remembered,
 }
 
 impl Waterfall {
     /// The tactic, which gives a way this share, in tenths, of the steps that are left, where others follow.
-    pub fn new(share: u64) -> Waterfall {
-        Waterfall { share }
+    pub fn new(alloc: Global, share: u64) -> Waterfall {
+        Waterfall {
+            share,
+            learnt: Learnt::new(alloc),
+            remembered: Remembered::new(alloc),
+        }
+    }
+
+    /// Gives a way this share from now on.
+    pub fn give(&mut self, share: u64) {
+        self.share = share;
     }
 
     /// The plan of the goals to which a simplification leads.
@@ -75,7 +91,7 @@ impl Waterfall {
 
     /// Simplifies a goal.
     fn simplify(
-        &self,
+        &mut self,
         work: &mut Work,
         history: &History,
         hints: &Hints,
@@ -89,7 +105,7 @@ impl Waterfall {
         ensures out { result ≡ Err Stop.OutOfSteps → work.new.counter.used ≡ work.new.counter.limit }
     {
         let next = self.plan_after_simplification(work, plan);
-        let led = lead_simplified(work, history, hints, goal, next)?;
+        let led = lead_simplified(work, history, hints, &mut self.learnt, goal, next)?;
         Ok(Some(led))
     }
 
@@ -185,6 +201,14 @@ impl Tactic for Waterfall {
     ghost nexts_of = { nexts_of };
 
     ghost is_way = { IsWay };
+
+    fn recall(&self, goal: &[TermId]) -> Option<u64> {
+        self.remembered.line_of(goal)
+    }
+
+    fn remember(&mut self, goal: &[TermId], line: u64) {
+        self.remembered.keep(goal, line);
+    }
 
     fn nexts(way: &Way) -> &[Vec<TermId>] {
         nexts_of(way)

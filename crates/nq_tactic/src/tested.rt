@@ -52,10 +52,7 @@ fn line_at(
     ensures out { result ≡ Err Stop.OutOfSteps → work.new.counter.used ≡ work.new.counter.limit }
 {
     if is_told(&work.bank, rules, goal[at]) {
-        let mut rewriter = LiteralRewriter {
-            hints,
-            until: u64::MAX,
-        };
+        let mut rewriter = LiteralRewriter::new(work.bank.alloc(), hints, u64::MAX);
         line_of_literal(work, history, &mut rewriter, goal, at)
     } else {
         object_line(work, history, hints, goal, at)

@@ -550,8 +550,8 @@ pub testing::rewrite_unknown-returns-then-is_idle-clause-grows : goal.testing::r
 testing::rewrite_unknown-returns-then-is_idle-clause-grows t c =
     WorkGrows-refl c.args.history.now c.args.work.now c.requires.can.stands
 
-pub testing::rewrite_nested-rewrite_divided-requires : goal.testing::rewrite_nested-rewrite_divided-requires
-testing::rewrite_nested-rewrite_divided-requires t c =
+pub testing::rewrite_nested-rewrite_spread-requires : goal.testing::rewrite_nested-rewrite_spread-requires
+testing::rewrite_nested-rewrite_spread-requires t c =
     let h : List Entry = c.args.history.now in
     let hyps : List TermId = c.args.assumed.now in
     let old : Work = c.args.work.now in
@@ -567,8 +567,8 @@ testing::rewrite_nested-returns-in_err-rest-clause-grows t c =
     let old : Work = c.args.work.now in
     let one : Work = c.with_test.new.work in
     let g1 : WorkGrows h old one = c.with_test.ensures.grows in
-    let two : Work = c.rewrite_divided.new.work in
-    let g2 : WorkGrows h one two = c.rewrite_divided.ensures.grows in
+    let two : Work = c.rewrite_spread.new.work in
+    let g2 : WorkGrows h one two = c.rewrite_spread.ensures.grows in
     (WorkGrows-trans h old one two g1 g2)
 
 pub testing::rewrite_nested-follow-requires-clause-can : goal.testing::rewrite_nested-follow-requires-clause-can
@@ -578,8 +578,8 @@ testing::rewrite_nested-follow-requires-clause-can t c =
     let old : Work = c.args.work.now in
     let one : Work = c.with_test.new.work in
     let g1 : WorkGrows h old one = c.with_test.ensures.grows in
-    let two : Work = c.rewrite_divided.new.work in
-    let g2 : WorkGrows h one two = c.rewrite_divided.ensures.grows in
+    let two : Work = c.rewrite_spread.new.work in
+    let g2 : WorkGrows h one two = c.rewrite_spread.ensures.grows in
     (can_grown h old two (WorkGrows-trans h old one two g1 g2) hyps c.args.t c.requires.can)
 
 pub testing::rewrite_nested-follow-requires-clause-first : goal.testing::rewrite_nested-follow-requires-clause-first
@@ -589,8 +589,8 @@ testing::rewrite_nested-follow-requires-clause-first t c =
     let old : Work = c.args.work.now in
     let one : Work = c.with_test.new.work in
     let g1 : WorkGrows h old one = c.with_test.ensures.grows in
-    let two : Work = c.rewrite_divided.new.work in
-    let g2 : WorkGrows h one two = c.rewrite_divided.ensures.grows in
+    let two : Work = c.rewrite_spread.new.work in
+    let g2 : WorkGrows h one two = c.rewrite_spread.ensures.grows in
     rewritten_carried h hyps old one two c.args.t c.in_ok-whole.whole g1 g2 c.requires.can c.in_ok-whole.ensures.ok
 
 pub testing::rewrite_nested-follow-requires-clause-second : goal.testing::rewrite_nested-follow-requires-clause-second
@@ -600,8 +600,8 @@ testing::rewrite_nested-follow-requires-clause-second t c =
     let old : Work = c.args.work.now in
     let one : Work = c.with_test.new.work in
     let g1 : WorkGrows h old one = c.with_test.ensures.grows in
-    let two : Work = c.rewrite_divided.new.work in
-    let g2 : WorkGrows h one two = c.rewrite_divided.ensures.grows in
+    let two : Work = c.rewrite_spread.new.work in
+    let g2 : WorkGrows h one two = c.rewrite_spread.ensures.grows in
     rewritten_now h hyps one two c.in_ok-whole.whole.term c.in_ok-rest.rest g2 (can_term h one hyps c.args.t c.in_ok-whole.whole.term (can_grown h old one g1 hyps c.args.t c.requires.can) c.in_ok-whole.ensures.ok.new) c.in_ok-rest.ensures.ok
 
 pub testing::rewrite_nested-returns-clause-ok : goal.testing::rewrite_nested-returns-clause-ok
@@ -611,8 +611,8 @@ testing::rewrite_nested-returns-clause-ok t c =
     let old : Work = c.args.work.now in
     let one : Work = c.with_test.new.work in
     let g1 : WorkGrows h old one = c.with_test.ensures.grows in
-    let two : Work = c.rewrite_divided.new.work in
-    let g2 : WorkGrows h one two = c.rewrite_divided.ensures.grows in
+    let two : Work = c.rewrite_spread.new.work in
+    let g2 : WorkGrows h one two = c.rewrite_spread.ensures.grows in
     let three : Work = c.follow.new.work in
     let g3 : WorkGrows h two three = c.follow.ensures.grows in
     told_before h hyps old two three c.args.t c.follow.result (WorkGrows-trans h old one two g1 g2) c.requires.can c.follow.ensures.ok
@@ -624,11 +624,107 @@ testing::rewrite_nested-returns-clause-grows t c =
     let old : Work = c.args.work.now in
     let one : Work = c.with_test.new.work in
     let g1 : WorkGrows h old one = c.with_test.ensures.grows in
-    let two : Work = c.rewrite_divided.new.work in
-    let g2 : WorkGrows h one two = c.rewrite_divided.ensures.grows in
+    let two : Work = c.rewrite_spread.new.work in
+    let g2 : WorkGrows h one two = c.rewrite_spread.ensures.grows in
     let three : Work = c.follow.new.work in
     let g3 : WorkGrows h two three = c.follow.ensures.grows in
     (WorkGrows-trans h old two three (WorkGrows-trans h old one two g1 g2) g3)
+
+pub testing::rewrite_spread-rewrite_on-requires : goal.testing::rewrite_spread-rewrite_on-requires
+testing::rewrite_spread-rewrite_on-requires t c =
+    let h : List Entry = c.args.history.now in
+    let hyps : List TermId = c.args.assumed.now in
+    let old : Work = c.args.work.now in
+    let one : Work = c.by_test_law.new.work in
+    let g1 : WorkGrows h old one = c.by_test_law.ensures.grows in
+    let fewer : one.counter.limit - one.counter.used ≤ old.counter.limit - old.counter.used = fewer_left h old one g1 in
+    (omega (arith, fewer), (c.requires.depth, ((can_grown h old one g1 hyps c.args.t c.requires.can), rewritten_now h hyps old one c.args.t c.in_ok-step.step g1 c.requires.can c.in_ok-step.ensures.ok)))
+
+pub testing::rewrite_spread-returns-in-Some-clause-ok : goal.testing::rewrite_spread-returns-in-Some-clause-ok
+testing::rewrite_spread-returns-in-Some-clause-ok t c =
+    let h : List Entry = c.args.history.now in
+    let hyps : List TermId = c.args.assumed.now in
+    let old : Work = c.args.work.now in
+    let one : Work = c.by_test_law.new.work in
+    let g1 : WorkGrows h old one = c.by_test_law.ensures.grows in
+    let two : Work = c.rewrite_on.new.work in
+    let g2 : WorkGrows h one two = c.rewrite_on.ensures.grows in
+    told_before h hyps old one two c.args.t c.rewrite_on.result g1 c.requires.can c.rewrite_on.ensures.ok
+
+pub testing::rewrite_spread-returns-in-Some-clause-grows : goal.testing::rewrite_spread-returns-in-Some-clause-grows
+testing::rewrite_spread-returns-in-Some-clause-grows t c =
+    let h : List Entry = c.args.history.now in
+    let hyps : List TermId = c.args.assumed.now in
+    let old : Work = c.args.work.now in
+    let one : Work = c.by_test_law.new.work in
+    let g1 : WorkGrows h old one = c.by_test_law.ensures.grows in
+    let two : Work = c.rewrite_on.new.work in
+    let g2 : WorkGrows h one two = c.rewrite_on.ensures.grows in
+    (WorkGrows-trans h old one two g1 g2)
+
+pub testing::rewrite_spread-rewrite_divided-requires : goal.testing::rewrite_spread-rewrite_divided-requires
+testing::rewrite_spread-rewrite_divided-requires t c =
+    let h : List Entry = c.args.history.now in
+    let hyps : List TermId = c.args.assumed.now in
+    let old : Work = c.args.work.now in
+    let one : Work = c.by_test_law.new.work in
+    let g1 : WorkGrows h old one = c.by_test_law.ensures.grows in
+    let fewer : one.counter.limit - one.counter.used ≤ old.counter.limit - old.counter.used = fewer_left h old one g1 in
+    (omega (arith, fewer), (c.requires.depth, ((can_grown h old one g1 hyps c.args.t c.requires.can), (term_grown h old one c.args.p c.requires.can.stands g1 c.requires.by))))
+
+pub testing::rewrite_spread-returns-in-None-clause-ok : goal.testing::rewrite_spread-returns-in-None-clause-ok
+testing::rewrite_spread-returns-in-None-clause-ok t c =
+    let h : List Entry = c.args.history.now in
+    let hyps : List TermId = c.args.assumed.now in
+    let old : Work = c.args.work.now in
+    let one : Work = c.by_test_law.new.work in
+    let g1 : WorkGrows h old one = c.by_test_law.ensures.grows in
+    let two : Work = c.rewrite_divided.new.work in
+    let g2 : WorkGrows h one two = c.rewrite_divided.ensures.grows in
+    told_before h hyps old one two c.args.t c.rewrite_divided.result g1 c.requires.can c.rewrite_divided.ensures.ok
+
+pub testing::rewrite_spread-returns-in-None-clause-grows : goal.testing::rewrite_spread-returns-in-None-clause-grows
+testing::rewrite_spread-returns-in-None-clause-grows t c =
+    let h : List Entry = c.args.history.now in
+    let hyps : List TermId = c.args.assumed.now in
+    let old : Work = c.args.work.now in
+    let one : Work = c.by_test_law.new.work in
+    let g1 : WorkGrows h old one = c.by_test_law.ensures.grows in
+    let two : Work = c.rewrite_divided.new.work in
+    let g2 : WorkGrows h one two = c.rewrite_divided.ensures.grows in
+    (WorkGrows-trans h old one two g1 g2)
+
+pub testing::rewrite_turned-rewrite_on-requires : goal.testing::rewrite_turned-rewrite_on-requires
+testing::rewrite_turned-rewrite_on-requires t c =
+    let h : List Entry = c.args.history.now in
+    let hyps : List TermId = c.args.assumed.now in
+    let old : Work = c.args.work.now in
+    let one : Work = c.by_test_law.new.work in
+    let g1 : WorkGrows h old one = c.by_test_law.ensures.grows in
+    let fewer : one.counter.limit - one.counter.used ≤ old.counter.limit - old.counter.used = fewer_left h old one g1 in
+    (omega (arith, fewer), (c.requires.depth, ((can_grown h old one g1 hyps c.args.t c.requires.can), rewritten_now h hyps old one c.args.t c.in_ok-step.step g1 c.requires.can c.in_ok-step.ensures.ok)))
+
+pub testing::rewrite_turned-returns-in-Some-clause-ok : goal.testing::rewrite_turned-returns-in-Some-clause-ok
+testing::rewrite_turned-returns-in-Some-clause-ok t c =
+    let h : List Entry = c.args.history.now in
+    let hyps : List TermId = c.args.assumed.now in
+    let old : Work = c.args.work.now in
+    let one : Work = c.by_test_law.new.work in
+    let g1 : WorkGrows h old one = c.by_test_law.ensures.grows in
+    let two : Work = c.rewrite_on.new.work in
+    let g2 : WorkGrows h one two = c.rewrite_on.ensures.grows in
+    told_before h hyps old one two c.args.t c.rewrite_on.result g1 c.requires.can c.rewrite_on.ensures.ok
+
+pub testing::rewrite_turned-returns-in-Some-clause-grows : goal.testing::rewrite_turned-returns-in-Some-clause-grows
+testing::rewrite_turned-returns-in-Some-clause-grows t c =
+    let h : List Entry = c.args.history.now in
+    let hyps : List TermId = c.args.assumed.now in
+    let old : Work = c.args.work.now in
+    let one : Work = c.by_test_law.new.work in
+    let g1 : WorkGrows h old one = c.by_test_law.ensures.grows in
+    let two : Work = c.rewrite_on.new.work in
+    let g2 : WorkGrows h one two = c.rewrite_on.ensures.grows in
+    (WorkGrows-trans h old one two g1 g2)
 
 pub testing::rewrite_divided-if_parts_of-requires-clause-term : goal.testing::rewrite_divided-if_parts_of-requires-clause-term
 testing::rewrite_divided-if_parts_of-requires-clause-term t c =

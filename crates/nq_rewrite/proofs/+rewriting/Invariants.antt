@@ -44,17 +44,23 @@ decreases-testing::rewrite_unknown l = 64 * (l.work.now.counter.limit - l.work.n
 abbrev pub decreases-testing::rewrite_nested : goal.decreases-testing::rewrite_nested
 decreases-testing::rewrite_nested l = 64 * (l.work.now.counter.limit - l.work.now.counter.used) + 25
 
+abbrev pub decreases-testing::rewrite_spread : goal.decreases-testing::rewrite_spread
+decreases-testing::rewrite_spread l = 64 * (l.work.now.counter.limit - l.work.now.counter.used) + 24
+
+abbrev pub decreases-testing::rewrite_turned : goal.decreases-testing::rewrite_turned
+decreases-testing::rewrite_turned l = 64 * (l.work.now.counter.limit - l.work.now.counter.used) + 27
+
 abbrev pub decreases-testing::rewrite_divided : goal.decreases-testing::rewrite_divided
-decreases-testing::rewrite_divided l = 64 * (l.work.now.counter.limit - l.work.now.counter.used) + 24
+decreases-testing::rewrite_divided l = 64 * (l.work.now.counter.limit - l.work.now.counter.used) + 23
 
 abbrev pub decreases-testing::rewrite_doubled : goal.decreases-testing::rewrite_doubled
-decreases-testing::rewrite_doubled l = 64 * (l.work.now.counter.limit - l.work.now.counter.used) + 23
+decreases-testing::rewrite_doubled l = 64 * (l.work.now.counter.limit - l.work.now.counter.used) + 22
 
 abbrev pub decreases-testing::rewrite_joined : goal.decreases-testing::rewrite_joined
-decreases-testing::rewrite_joined l = 64 * (l.work.now.counter.limit - l.work.now.counter.used) + 22
+decreases-testing::rewrite_joined l = 64 * (l.work.now.counter.limit - l.work.now.counter.used) + 21
 
 abbrev pub decreases-testing::rewrite_branches : goal.decreases-testing::rewrite_branches
-decreases-testing::rewrite_branches l = 64 * (l.work.now.counter.limit - l.work.now.counter.used) + 21
+decreases-testing::rewrite_branches l = 64 * (l.work.now.counter.limit - l.work.now.counter.used) + 20
 
 abbrev pub decreases-testing::rewrite_under : goal.decreases-testing::rewrite_under
 decreases-testing::rewrite_under l = 64 * (l.work.now.counter.limit - l.work.now.counter.used) + 1

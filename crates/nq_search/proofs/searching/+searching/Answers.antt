@@ -15,6 +15,9 @@ use Rattle.nq_search.proofs.searching.+searching.Goals as goal
 pub seek-returns-then-plan-eq0-clause-grows : goal.seek-returns-then-plan-eq0-clause-grows
 seek-returns-then-plan-eq0-clause-grows g t c = WorkGrows-refl c.args.history.now c.args.work.now c.requires.ready.stands
 
+pub seek-returns-in-Some-clause-grows : goal.seek-returns-in-Some-clause-grows
+seek-returns-in-Some-clause-grows g t c = WorkGrows-refl c.args.history.now c.args.work.now c.requires.ready.stands
+
 pub seek_all-loop-goal-init : goal.seek_all-loop-goal-init
 seek_all-loop-goal-init g t c =
     record {

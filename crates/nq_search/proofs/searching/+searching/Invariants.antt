@@ -5,19 +5,22 @@ use Rattle.nq_search.specs.Goals.{HaveLines, goals_at}
 use Rattle.nq_search.proofs.searching.+searching.Given as goal
 
 abbrev pub decreases-seek : goal.decreases-seek
-decreases-seek g l = 5 * l.plan.levels
+decreases-seek g l = 6 * l.plan.levels
+
+abbrev pub decreases-seek_anew : goal.decreases-seek_anew
+decreases-seek_anew g l = 6 * l.plan.levels + 5
 
 abbrev pub decreases-seek_turns : goal.decreases-seek_turns
-decreases-seek_turns g l = 5 * l.plan.levels + 4
+decreases-seek_turns g l = 6 * l.plan.levels + 4
 
 abbrev pub decreases-seek_turn : goal.decreases-seek_turn
-decreases-seek_turn g l = 5 * l.plan.levels + 3
+decreases-seek_turn g l = 6 * l.plan.levels + 3
 
 abbrev pub decreases-seek_led : goal.decreases-seek_led
-decreases-seek_led g l = 5 * l.plan.levels + 2
+decreases-seek_led g l = 6 * l.plan.levels + 2
 
 abbrev pub decreases-seek_all : goal.decreases-seek_all
-decreases-seek_all g l = 5 * l.plan.levels + 1
+decreases-seek_all g l = 6 * l.plan.levels + 1
 
 -- the work grew
 abbrev pub invariant-seek_turns-loop-turn : goal.invariant-seek_turns-loop-turn
