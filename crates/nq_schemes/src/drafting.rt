@@ -120,14 +120,14 @@ fn score_of(places: &[usize], arguments: &[TermId], cases: &[DraftCase]) -> u64 
     count.saturating_mul(WHOLE) / (arguments.len() as u64)
 }
 
-/// The variables of a call that do not change.
+/// The variables of a call's measured arguments that do not change. What stands in the others may change as it likes.
 fn still_in(
     bank: &Bank,
-    arguments: &[TermId],
+    measured: &[TermId],
     changed: &[TermId],
 ) -> Result<Vec<TermId>, AllocError> {
     let mut variables = Vec::new(bank.alloc());
-    for a in arguments {
+    for a in measured {
         if a.0 < bank.len() {
             add_variables(bank, &mut variables, *a)?;
         }
@@ -165,7 +165,7 @@ fn draft_by(
     let places = recursion.measured.as_slice();
     let measured = arguments_at(bank, places, call)?;
     let changed = changed_in(bank.alloc(), cases.as_slice())?;
-    let still = still_in(bank, arguments, changed.as_slice())?;
+    let still = still_in(bank, measured.as_slice(), changed.as_slice())?;
     Ok(Draft {
         calls: vec![in bank.alloc(); call]?,
         score: score_of(places, arguments, cases.as_slice()),
