@@ -1,12 +1,13 @@
 //! That the measures of the functions of a goal are ordinals and fall: what no line at hand says is proved by the search itself, and
 //! its line is known from then on. An induction by such a function then needs no tests that say it.
 ghost use Rattle.std.specs.Prelude.{◌≡◌, IfOk, Err};
-ghost use Rattle.nq_bank.specs.Content.{IsNamed};
+ghost use Rattle.nq_bank.specs.Content.{IsNamed, terms_at};
 ghost use Rattle.nq_kernel.specs.Growing.{WorkGrows};
 ghost use Rattle.nq_lines.specs.Facts.{IsFact};
 ghost use Rattle.nq_lines.specs.Lines.{IsTermIn};
 ghost use Rattle.nq_schemes.specs.Owed.{AreGoalsIn};
 ghost use Rattle.nq_search.specs.Goals.{CanSearch, IsGoalIn};
+ghost use Rattle.nq_search.specs.Searching.{IsFound};
 
 use crate::guessing::{called_in, has_name};
 use crate::kinds::remember;
@@ -228,6 +229,24 @@ fn learn_goals(
     Ok(())
 }
 
+/// Seeks a line of a goal by a tactic of its own.
+fn seek_briefly(
+    work: &mut Work,
+    history: &History,
+    hints: &Hints,
+    plan: Plan,
+    goal: &[TermId],
+) -> Result<Option<u64>, Stop>
+    requires can { CanSearch history.now hints.now work.old }
+    requires goal { IsGoalIn history.now work.old goal.now }
+    ensures found { IfOk result (IsFound work.new (terms_at work.old.bank goal.now)) }
+    ensures grows { WorkGrows history.now work.old work.new }
+    ensures out { result ≡ Err Stop.OutOfSteps → work.new.counter.used ≡ work.new.counter.limit }
+{
+    let mut tactic = Waterfall::new(work.bank.alloc(), 7);
+    seek(work, &mut tactic, history, hints, plan, goal)
+}
+
 /// Keeps the line of a goal, if it is found.
 fn learn_line(
     work: &mut Work,
@@ -245,14 +264,7 @@ fn learn_line(
 {
     ready_histories();
     let plan = plan_of_fall(work);
-    match seek(
-        work,
-        &mut Waterfall::new(work.bank.alloc(), 7),
-        history,
-        hints,
-        plan,
-        goal,
-    )? {
+    match seek_briefly(work, history, hints, plan, goal)? {
         Some(line) => {
             remember(work, history, f, line)?;
             Ok(())

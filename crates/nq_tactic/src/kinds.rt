@@ -277,14 +277,8 @@ fn learn_told(
     ensures out { result ≡ Err Stop.OutOfSteps → work.new.counter.used ≡ work.new.counter.limit }
 {
     let plan = plan_of_kind(work);
-    match seek(
-        work,
-        &mut Waterfall::new(work.bank.alloc(), 7),
-        history,
-        hints,
-        plan,
-        &[goal],
-    )? {
+    let mut tactic = Waterfall::new(work.bank.alloc(), 7);
+    match seek(work, &mut tactic, history, hints, plan, &[goal])? {
         Some(line) => remember(work, history, f, line),
         None => Ok(()),
     }
