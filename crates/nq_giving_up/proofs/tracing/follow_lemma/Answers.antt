@@ -19,15 +19,15 @@ use Rattle.nq_giving_up.proofs.tracing.follow_lemma.Goals as goal
 
 pub follow_over-requires-clause-ready : goal.follow_over-requires-clause-ready
 follow_over-requires-clause-ready c =
-    can_move c.args.bank c.first_goal.new.bank c.args.history.now c.args.hints.now c.new-work.result c.new-work.ensures.bank (c.new-work.ensures.log ∙ c.new.ensures) c.new-work.ensures.known c.requires.history c.in-Ok.ensures.grows c.in-Ok.ensures.names
+    can_move c.args.bank c.first_goal.new.bank c.args.history.now c.args.hints.now c.new-work.result c.new-work.ensures.bank (c.new-work.ensures.log ∙ c.new-2.ensures) c.new-work.ensures.known c.requires.history c.in-Ok.ensures.grows c.in-Ok.ensures.names
     c.holding.ensures c.held_work.ensures.none c.requires.ready c.requires.hints c.requires.hint_terms
 
 pub follow_over-requires-clause-goal : goal.follow_over-requires-clause-goal
 follow_over-requires-clause-goal c =
     let middle =
-    with_first c.args.bank c.first_goal.new.bank c.args.history.now c.args.hints.now c.new-work.result c.new-work.ensures.bank (c.new-work.ensures.log ∙ c.new.ensures) c.new-work.ensures.known c.requires.history c.in-Ok.ensures.grows c.in-Ok.ensures.names in
+    with_first c.args.bank c.first_goal.new.bank c.args.history.now c.args.hints.now c.new-work.result c.new-work.ensures.bank (c.new-work.ensures.log ∙ c.new-2.ensures) c.new-work.ensures.known c.requires.history c.in-Ok.ensures.grows c.in-Ok.ensures.names in
     subst (IsGoalIn c.args.history.now middle) (sym c.as_slice.ensures.value)
-    (goal_in c.args.bank c.first_goal.new.bank c.args.history.now c.args.hints.now c.new-work.result c.new-work.ensures.bank (c.new-work.ensures.log ∙ c.new.ensures) c.new-work.ensures.known c.requires.history c.in-Ok.ensures.grows c.in-Ok.ensures.names
+    (goal_in c.args.bank c.first_goal.new.bank c.args.history.now c.args.hints.now c.new-work.result c.new-work.ensures.bank (c.new-work.ensures.log ∙ c.new-2.ensures) c.new-work.ensures.known c.requires.history c.in-Ok.ensures.grows c.in-Ok.ensures.names
     c.args.goal c.in-Ok.first.items c.requires.ready c.requires.hint_terms c.requires.over c.in-Ok.ensures.stand c.in-Ok.ensures.are)
 
 pub given_back-requires : goal.given_back-requires
@@ -43,7 +43,7 @@ returns-clause-told c =
     let hints = c.args.hints.now in
     let begun = c.new-work.result in
     let given = c.in_ok-followed.ensures in
-    let empty = c.new-work.ensures.log ∙ c.new.ensures in
+    let empty = c.new-work.ensures.log ∙ c.new-2.ensures in
     let middle = with_first c.args.bank c.first_goal.new.bank history hints begun c.new-work.ensures.bank empty c.new-work.ensures.known c.requires.history c.in-Ok.ensures.grows c.in-Ok.ensures.names in
     let made = first_made c.args.bank c.first_goal.new.bank history hints begun c.new-work.ensures.bank empty c.new-work.ensures.known c.requires.history c.in-Ok.ensures.grows c.in-Ok.ensures.names in
     let stands = history_stands c.args.bank c.first_goal.new.bank history hints begun c.new-work.ensures.bank empty c.new-work.ensures.known c.requires.history c.in-Ok.ensures.grows c.in-Ok.ensures.names in
