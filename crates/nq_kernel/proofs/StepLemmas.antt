@@ -36,6 +36,10 @@ within_is used limit made steps kept total a b c d = omega arith
 pub passes_is : (used limit made steps kept total : ℕ) → kept ≡ min steps (2 ^ 128 - 1) → total ≡ min (made + kept) (2 ^ 128 - 1) → limit < 2 ^ 64 → (used + total ≤ limit → ⊥) → limit < used + made + steps
 passes_is used limit made steps kept total a b c d = elim (below_or_past limit (used + total)) [ inl past ↦ omega (arith, past) | inr within ↦ absurd (d within) ]
 
+-- a part of them passes the limit only where all do
+pub part_passes : (used limit made steps kept part total : ℕ) → kept ≡ min steps (2 ^ 128 - 1) → part ≤ kept → total ≡ min (made + part) (2 ^ 128 - 1) → limit < 2 ^ 64 → (used + total ≤ limit → ⊥) → limit < used + made + steps
+part_passes used limit made steps kept part total a le b c d = elim (below_or_past limit (used + total)) [ inl past ↦ omega (arith, past) | inr within ↦ absurd (d within) ]
+
 -- what holds after an error
 pub err_holds : {A F : Type 0} (r : Result A F) (e : F) (P : Type 0) → OnErr r P → r ≡ Err e → P
 err_holds (Ok a) e P h is = absurd cc

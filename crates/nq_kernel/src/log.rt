@@ -215,8 +215,13 @@ impl Log {
         ensures grows { Grows bank.old bank.new }
         ensures err { OnErr result (self.new ≡ self.old) }
         ensures symbols { AddsSymbols bank.old bank.new }
+
+        // A clause with a term that is too deep is refused as such, unless memory is wanting first; no other is.
+        ensures deep { result ≡ Err BankFault.Deep → IsDeep (conclusion_at bank.old history.now self.old rule) }
+        ensures shallow { OnOk result (IsDeep (conclusion_at bank.old history.now self.old rule) → ⊥) }
     {
         let clause = self.conclude(bank, history, &rule)?;
+        bank.is_sound();
         match self.noted(clause.as_slice()) {
             Some(n) => Ok(n),
             None => {

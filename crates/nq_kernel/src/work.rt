@@ -51,7 +51,9 @@ pub struct Work {
 }
 
 /// The steps of a line, where one was added.
-fn steps_if(added: bool, steps: u128) -> u128 {
+fn steps_if(added: bool, steps: u128) -> u128
+    ensures { result ≤ steps }
+{
     if added { steps } else { 0 }
 }
 
@@ -158,6 +160,10 @@ impl Work {
         requires allowed { IsSome (conclusion_at self.old.bank history.now self.old.log rule) }
         ensures line { IfOk result (λ n. clause_at self.new.bank self.new.log n ≡ conclusion_at self.old.bank history.now self.old.log rule) }
         ensures grows { WorkGrows history.now self.old self.new }
+
+        // Steps run out only where a new line would pass the limit, or a term of the clause is too deep.
+        ensures shallow { OnOk result (IsDeep (conclusion_at self.old.bank history.now self.old.log rule) → ⊥) }
+        ensures passes { result ≡ Err Stop.OutOfSteps → PassesLimit self.old self.new (steps_of rule) ⊎ IsDeep (conclusion_at self.old.bank history.now self.old.log rule) }
         ensures out { result ≡ Err Stop.OutOfSteps → self.new.counter.used ≡ self.new.counter.limit }
     {
         let terms = self.bank.len();
