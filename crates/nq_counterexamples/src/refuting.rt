@@ -77,3 +77,17 @@ pub fn is_refuted(bank: &Bank, history: &History, goal: &[TermId]) -> Result<boo
     }
     Ok(false)
 }
+
+/// Has one of these goals a counterexample among small values? It fails only for want of memory.
+pub fn is_one_refuted(
+    bank: &Bank,
+    history: &History,
+    goals: &[Vec<TermId>],
+) -> Result<bool, AllocError> {
+    for goal in goals {
+        if is_refuted(bank, history, goal.as_slice())? {
+            return Ok(true);
+        }
+    }
+    Ok(false)
+}

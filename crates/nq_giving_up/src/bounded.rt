@@ -1,11 +1,29 @@
-//! A mover that is asked only so long: of goals after that nothing is told.
+//! A mover that is asked for the trace of a proof: only so long, and of no goal that has a counterexample, since no proof uses one.
+ghost use Rattle.std.specs.Prelude.{◌≡◌, Err};
 
-use nq_bank::TermId;
+use nq_bank::{Bank, TermId};
+use nq_counterexamples::is_one_refuted;
 use nq_history::{Hints, History};
 use nq_kernel::{Stop, Work};
 use nq_waterfall::{Ancestor, Lead, Mover, Turn};
 
-/// Moves goals until so many steps are used, and tells nothing of goals after that.
+/// Does a turn lead to a goal that has a counterexample?
+fn leads_astray<W>(bank: &Bank, history: &History, turn: &Turn<W>) -> Result<bool, Stop>
+    ensures { result ≡ Err Stop.OutOfSteps → ⊥ }
+{
+    match turn {
+        Turn::Led(lead) => match is_one_refuted(bank, history, lead.nexts.as_slice()) {
+            Ok(refuted) => Ok(refuted),
+            Err(_) => Err(Stop::Memory),
+        },
+        Turn::Closed(_) => Ok(false),
+        Turn::Spent(_) => Ok(false),
+        Turn::Unknown => Ok(false),
+    }
+}
+
+/// Moves goals until so many steps are used, and tells nothing of goals after that, nor where a move leads to a goal that has a
+/// counterexample.
 #[derive(Drop)]
 pub struct Bounded<M> {
     /// What moves goals.
@@ -30,7 +48,12 @@ impl<M: Mover> Mover for Bounded<M> {
         if work.counter.used() >= self.until {
             return Ok(Turn::Unknown);
         }
-        self.mover.lead(work, history, hints, path, goal)
+        let turn = self.mover.lead(work, history, hints, path, goal)?;
+        if leads_astray(&work.bank, history, &turn)? {
+            Ok(Turn::Unknown)
+        } else {
+            Ok(turn)
+        }
     }
 
     fn close(

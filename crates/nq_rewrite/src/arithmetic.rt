@@ -10,6 +10,7 @@ ghost use Rattle.nq_instances.specs.Parts.{IsLine};
 ghost use Rattle.nq_lines.specs.Lines.{IsTermIn, LineHasOnly};
 ghost use Rattle.nq_reduce.specs.Rewriting.{CanRewrite, IsKnown, denials};
 
+use crate::comparable::{is_comparable, is_relievable};
 use crate::search::{NUMBERS, Search, mixed};
 use crate::terms::{is_call_of, shares_variable, variables_of};
 use crate::way::Way;
@@ -19,7 +20,6 @@ use nq_history::{Hints, History};
 use nq_kernel::{Stop, Work};
 use nq_lines::deny;
 use nq_reduce::{Known, argument_of, kept_among};
-use nq_rules::two_of;
 
 /// How often arithmetic is asked in the rewriting of one literal.
 const ASK_LIMIT: u32 = 12;
@@ -53,7 +53,7 @@ fn is_comparison(bank: &Bank, t: TermId) -> bool
 }
 
 /// What stands under the NOT of an assumption, or the assumption itself.
-fn plain_of(work: &Work, history: &History, a: TermId) -> TermId
+pub fn plain_of(work: &Work, history: &History, a: TermId) -> TermId
     requires stands { WorkStands history.now work.now }
     requires term { IsTermIn history.now work.now a }
     ensures { IsTermIn history.now work.now result }
@@ -238,44 +238,6 @@ fn false_by_arithmetic(
     }
 }
 
-/// Is one of the two sides of a comparison a side of another?
-fn shares_side(work: &Work, history: &History, t: TermId, a: TermId) -> bool
-    requires stands { WorkStands history.now work.now }
-    requires term { IsTermIn history.now work.now t }
-    requires other { IsTermIn history.now work.now a }
-{
-    let bank = &work.bank;
-    match two_of(bank, ground::LESSP, t) {
-        Some((l, r)) => match two_of(bank, ground::LESSP, a) {
-            Some((m, n)) => l.0 == m.0 || l.0 == n.0 || r.0 == m.0 || r.0 == n.0,
-            None => false,
-        },
-        None => false,
-    }
-}
-
-/// Is there an assumption that compares a side of a comparison by LESSP?
-fn has_comparison(work: &Work, history: &History, assumed: &[TermId], t: TermId) -> bool
-    requires can { CanRewrite history.now work.now assumed.now t }
-{
-    for a in assumed {
-        if shares_side(work, history, t, plain_of(work, history, *a)) {
-            return true;
-        }
-    }
-    false
-}
-
-/// Are the two sides of a comparison one term?
-fn is_reflexive(bank: &Bank, t: TermId) -> bool
-    requires { Stands bank.now t }
-{
-    match two_of(bank, ground::LESSP, t) {
-        Some((l, r)) => l.0 == r.0,
-        None => false,
-    }
-}
-
 /// May arithmetic be asked about a test?
 fn is_askable(
     work: &Work,
@@ -290,8 +252,11 @@ fn is_askable(
     if way.hints.no_arith || search.asked >= ASK_LIMIT || work.bank.size(t) > NODE_LIMIT {
         return false;
     }
-    is_call_of(&work.bank, ground::LESSP, t)
-        && (is_reflexive(&work.bank, t) || has_comparison(work, history, assumed, t))
+    if way.relieved.as_slice().is_empty() {
+        is_comparable(work, history, assumed, t)
+    } else {
+        is_relievable(work, history, assumed, t)
+    }
 }
 
 /// What linear arithmetic knows of a test, if it is asked. That it knows nothing is remembered.

@@ -28,6 +28,7 @@ mod told_kinds;
 
 // what linear arithmetic tells of tests, and of differences
 mod arithmetic;
+mod comparable;
 mod differences;
 
 // rules with variables that their left sides do not bind

@@ -2,7 +2,7 @@
 ghost use Rattle.std.specs.Prelude.{◌≡◌, Err};
 
 use nq_bank::TermId;
-use nq_counterexamples::is_refuted;
+use nq_counterexamples::{is_one_refuted, is_refuted};
 use nq_history::History;
 use nq_kernel::{Stop, Work};
 
@@ -20,10 +20,8 @@ pub fn is_false(work: &Work, history: &History, goal: &[TermId]) -> Result<bool,
 pub fn is_one_false(work: &Work, history: &History, goals: &[Vec<TermId>]) -> Result<bool, Stop>
     ensures { result ≡ Err Stop.OutOfSteps → ⊥ }
 {
-    for goal in goals {
-        if is_false(work, history, goal.as_slice())? {
-            return Ok(true);
-        }
+    match is_one_refuted(&work.bank, history, goals) {
+        Ok(refuted) => Ok(refuted),
+        Err(_) => Err(Stop::Memory),
     }
-    Ok(false)
 }
