@@ -27,10 +27,27 @@ fn are_steps_within(steps: &[Step], others: &[Step]) -> bool {
     true
 }
 
+/// Which of two cases has all tests of the other.
+#[derive(Clone, Copy, Debug, PartialEq, Eq)]
+enum Tests {
+    /// The case that contains the other.
+    Around,
+    /// The case that is contained: the hypotheses of the other stand in more cases.
+    Within,
+}
+
+/// Has the one case or the other all tests?
+fn are_fitting(tests: Tests, case: &DraftCase, other: &DraftCase) -> bool {
+    match tests {
+        Tests::Around => are_within(case.tests.as_slice(), other.tests.as_slice()),
+        Tests::Within => are_within(other.tests.as_slice(), case.tests.as_slice()),
+    }
+}
+
 /// Is a case contained in one of these?
-fn is_case_within(case: &DraftCase, cases: &[DraftCase]) -> bool {
+fn is_case_within(tests: Tests, case: &DraftCase, cases: &[DraftCase]) -> bool {
     for other in cases {
-        if are_within(case.tests.as_slice(), other.tests.as_slice())
+        if are_fitting(tests, case, other)
             && are_steps_within(case.steps.as_slice(), other.steps.as_slice())
         {
             return true;
@@ -40,9 +57,9 @@ fn is_case_within(case: &DraftCase, cases: &[DraftCase]) -> bool {
 }
 
 /// Is each case of a draft contained in a case of the other?
-fn is_within(draft: &Draft, other: &Draft) -> bool {
+fn is_within(tests: Tests, draft: &Draft, other: &Draft) -> bool {
     for case in draft.cases.as_slice() {
-        if !is_case_within(case, other.cases.as_slice()) {
+        if !is_case_within(tests, case, other.cases.as_slice()) {
             return false;
         }
     }
@@ -50,11 +67,11 @@ fn is_within(draft: &Draft, other: &Draft) -> bool {
 }
 
 /// Is the draft at one place contained in the one at the other, and are both still there?
-fn may_go(drafts: &[Draft], i: usize, j: usize) -> bool {
+fn may_go(tests: Tests, drafts: &[Draft], i: usize, j: usize) -> bool {
     if i < drafts.len() && j < drafts.len() && i != j {
         let one = &drafts[i];
         let other = &drafts[j];
-        !one.gone && !other.gone && is_within(one, other)
+        !one.gone && !other.gone && is_within(tests, one, other)
     } else {
         false
     }
@@ -83,9 +100,14 @@ fn give(alloc: Global, drafts: &mut Vec<Draft>, i: usize, j: usize) -> Result<()
 }
 
 /// Gives the draft at a place to the first one that it is contained in.
-fn subsume_at(alloc: Global, drafts: &mut Vec<Draft>, i: usize) -> Result<(), AllocError> {
+fn subsume_at(
+    alloc: Global,
+    tests: Tests,
+    drafts: &mut Vec<Draft>,
+    i: usize,
+) -> Result<(), AllocError> {
     for j in 0..drafts.len() {
-        if may_go(drafts.as_slice(), i, j) {
+        if may_go(tests, drafts.as_slice(), i, j) {
             give(alloc, drafts, i, j)?;
         }
     }
@@ -93,9 +115,16 @@ fn subsume_at(alloc: Global, drafts: &mut Vec<Draft>, i: usize) -> Result<(), Al
 }
 
 /// Gives each draft that is contained in another to that one.
-pub fn subsume(alloc: Global, drafts: &mut Vec<Draft>) -> Result<(), AllocError> {
+fn subsume_by(alloc: Global, tests: Tests, drafts: &mut Vec<Draft>) -> Result<(), AllocError> {
     for i in 0..drafts.len() {
-        subsume_at(alloc, drafts, i)?;
+        subsume_at(alloc, tests, drafts, i)?;
     }
     Ok(())
+}
+
+/// Gives each draft that is contained in another to that one: first to those with more tests, then to those with fewer, as that of
+/// `(MEMBER E A)` to that of a reversal of A with an accumulator.
+pub fn subsume(alloc: Global, drafts: &mut Vec<Draft>) -> Result<(), AllocError> {
+    subsume_by(alloc, Tests::Around, drafts)?;
+    subsume_by(alloc, Tests::Within, drafts)
 }
