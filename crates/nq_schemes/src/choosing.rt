@@ -3,6 +3,7 @@
 
 use crate::draft::Draft;
 use crate::merging::merge;
+use crate::pairing::pair;
 use crate::subsuming::subsume;
 use crate::terms::{are_apart, function_of};
 use nq_bank::{Bank, TermId, ground};
@@ -70,15 +71,22 @@ fn own_calls(bank: &Bank, calls: &[TermId]) -> u64 {
     count
 }
 
-/// The weights of the drafts that are still there, of which so many come before those that were merged.
-fn weights_of(bank: &Bank, drafts: &[Draft], whole: usize) -> Result<Vec<Weight>, AllocError> {
+/// The weights of the drafts that are still there, of which so many stand by themselves, and so many come before those that were
+/// merged. Between the two are pairs.
+fn weights_of(
+    bank: &Bank,
+    drafts: &[Draft],
+    single: usize,
+    whole: usize,
+) -> Result<Vec<Weight>, AllocError> {
     let mut weights = Vec::new(bank.alloc());
     for place in 0..drafts.len() {
         let draft = &drafts[place];
         if !draft.gone {
             weights.push(Weight {
                 apart: place >= whole,
-                flawed: is_flawed(drafts, whole, place),
+                flawed: draft.score == 0
+                    || ((place < single || place >= whole) && is_flawed(drafts, single, place)),
                 score: draft.score,
                 by_parts: draft.by_parts,
                 calls: own_calls(bank, draft.calls.as_slice()),
@@ -157,10 +165,11 @@ fn add_apart(drafts: &mut Vec<Draft>, mut apart: Vec<Draft>) -> Result<(), Alloc
     Ok(())
 }
 
-/// Subsumes and merges drafts, adds those that were merged, from a second list of the same drafts, and tells the place of the one
-/// of this number.
+/// Subsumes and merges the drafts of a goal's calls, adds pairs of them and those that were merged, from a second list of the same
+/// drafts, and tells the place of the one of this number.
 pub fn choose(
     bank: &Bank,
+    goal: &[TermId],
     drafts: &mut Vec<Draft>,
     mut apart: Vec<Draft>,
     turn: u32,
@@ -169,8 +178,10 @@ pub fn choose(
     subsume(alloc, drafts)?;
     merge(alloc, drafts)?;
     subsume(alloc, &mut apart)?;
+    let single = drafts.len();
+    pair(bank, goal, drafts, single)?;
     let whole = drafts.len();
     add_apart(drafts, apart)?;
-    let weights = weights_of(bank, drafts.as_slice(), whole)?;
+    let weights = weights_of(bank, drafts.as_slice(), single, whole)?;
     Ok(place_of(weights.as_slice(), turn))
 }

@@ -29,6 +29,7 @@ mod steps;
 // which draft comes first
 mod choosing;
 mod merging;
+mod pairing;
 mod subsuming;
 
 // terms that are known to be over the history

@@ -49,7 +49,7 @@ fn fitting(step: &Step, steps: &[Step]) -> Option<usize> {
 }
 
 /// The step that makes the changes of two.
-fn joined_step(alloc: Global, step: &Step, other: &Step) -> Result<Step, AllocError> {
+pub fn joined_step(alloc: Global, step: &Step, other: &Step) -> Result<Step, AllocError> {
     let mut changes = Vec::from_slice(alloc, step.changes.as_slice())?;
     for c in other.changes.as_slice() {
         add_change(&mut changes, *c)?;
@@ -178,7 +178,7 @@ fn may_join(one: &Draft, other: &Draft) -> bool {
 }
 
 /// The draft of these cases, which were those of two drafts.
-fn draft_of_both(
+pub fn draft_of_both(
     alloc: Global,
     one: &Draft,
     other: &Draft,

@@ -151,13 +151,14 @@ pub fn drafts_at(work: &Work, history: &History, opened: &[Opened]) -> Result<Ve
 /// The place of the draft of this number, after those were added that were merged.
 fn chosen(
     work: &Work,
+    goal: &[TermId],
     drafts: &mut Vec<Draft>,
     apart: Vec<Draft>,
     turn: u32,
 ) -> Result<Option<usize>, Stop>
     ensures memory { result ≡ Err Stop.OutOfSteps → ⊥ }
 {
-    match choose(&work.bank, drafts, apart, turn) {
+    match choose(&work.bank, goal, drafts, apart, turn) {
         Ok(place) => Ok(place),
         Err(_) => Err(Stop::Memory),
     }
@@ -213,7 +214,7 @@ fn scheme_of_calls(
     let opened = all_opened(work, history, goal, calls)?;
     let mut drafts = drafts_at(work, history, opened.as_slice())?;
     let apart = drafts_at(work, history, opened.as_slice())?;
-    let place = chosen(work, &mut drafts, apart, turn)?;
+    let place = chosen(work, goal, &mut drafts, apart, turn)?;
     scheme_of_place(work, history, opened, drafts.as_slice(), place, arithmetic)
 }
 

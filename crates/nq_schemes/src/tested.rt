@@ -4,7 +4,7 @@ use crate::parted::Test;
 use std::alloc::{AllocError, Global};
 
 /// Is a test among these?
-fn has_test(tests: &[Test], test: Test) -> bool {
+pub fn has_test(tests: &[Test], test: Test) -> bool {
     for t in tests {
         if t.term.0 == test.term.0 && t.holds == test.holds {
             return true;
