@@ -4,3 +4,4 @@ mod TacticLemmas
 mod WayLemmas
 mod KnownLemmas
 mod ObjectLemmas
+mod CircleLemmas

@@ -10,7 +10,7 @@ use nq_rewrite::known_recognizer;
 use std::alloc::AllocError;
 
 /// The most nodes of a body that is walked.
-const BODY_LIMIT: u64 = 3000;
+pub const BODY_LIMIT: u64 = 3000;
 
 /// What leaves of a body tell.
 #[derive(Clone, Copy, Debug)]
@@ -138,7 +138,7 @@ fn leaves_of(work: &Work, history: &History, f: Sym, body: TermId, t: TermId) ->
 }
 
 /// The body of a function, if it is defined, and small enough to be walked.
-fn body_of(bank: &Bank, history: &History, f: Sym) -> Option<TermId>
+pub fn body_of(bank: &Bank, history: &History, f: Sym) -> Option<TermId>
     ensures { IfSome result (Stands bank.now) }
 {
     let body = defined_body(history, f)?;
@@ -194,7 +194,7 @@ fn guessed_kind(work: &Work, history: &History, f: Sym) -> Option<Sym>
 }
 
 /// The place of the shell that a function recognizes.
-fn recognized_place(history: &History, r: Sym) -> Option<usize> {
+pub fn recognized_place(history: &History, r: Sym) -> Option<usize> {
     let shells = history.shells();
     for place in 0..shells.len() {
         if shells[place].recognizer.0 == r.0 {
@@ -275,7 +275,7 @@ fn measure_of(history: &History, f: Sym) -> Option<TermId> {
 }
 
 /// Adds a function, if it is not among these.
-fn add_name(names: &mut Vec<Sym>, f: Sym) -> Result<(), AllocError> {
+pub fn add_name(names: &mut Vec<Sym>, f: Sym) -> Result<(), AllocError> {
     if !has_name(names.as_slice(), f) {
         names.push(f)?;
     }

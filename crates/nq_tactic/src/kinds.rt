@@ -12,6 +12,8 @@ ghost use Rattle.nq_search.specs.Goals.{CanSearch};
 use crate::guessing::{functions_of, guessed_place, has_name, is_declared, recognizer_at};
 use crate::order::TURNS;
 use crate::tactic::Waterfall;
+use crate::truth_lines::learn_truth;
+use crate::truths::compared_in;
 use nq_bank::{Sym, TermId, ground};
 use nq_history::{Hints, History};
 use nq_kernel::{Prescription, Stop, Work, ready_histories};
@@ -23,8 +25,17 @@ use nq_search::{Plan, seek};
 /// Into how many parts the steps are divided of which the search for one kind gets one.
 const KIND_PART: u64 = 60;
 
+/// What is learnt of functions.
+#[derive(Clone, Copy, Debug, PartialEq, Eq)]
+enum Lesson {
+    /// Of what kind their calls are.
+    Kind,
+    /// That their calls are T or F.
+    Truth,
+}
+
 /// The plan of the search for a kind.
-fn plan_of_kind(work: &Work) -> Plan {
+pub fn plan_of_kind(work: &Work) -> Plan {
     let used = work.counter.used();
     Plan {
         levels: 20,
@@ -50,20 +61,43 @@ pub fn learn_kinds(
     ensures out { result ≡ Err Stop.OutOfSteps → work.new.counter.used ≡ work.new.counter.limit }
 {
     match functions_of(&work.bank, history, goal) {
-        Ok(names) => learn_among(work, history, hints, names.as_slice()),
+        Ok(names) => learn_among(work, history, hints, Lesson::Kind, names.as_slice()),
+        Err(_) => Err(Stop::Memory),
+    }
+}
+
+/// Learns of which functions of the sides of a goal's equations the values are T or F, the oldest first.
+pub fn learn_truths(
+    work: &mut Work,
+    history: &History,
+    hints: &Hints,
+    goal: &[TermId],
+) -> Result<(), Stop>
+    requires can { CanSearch history.now hints.now work.old }
+    ensures grows { WorkGrows history.now work.old work.new }
+    ensures out { result ≡ Err Stop.OutOfSteps → work.new.counter.used ≡ work.new.counter.limit }
+{
+    match compared_in(&work.bank, goal) {
+        Ok(names) => learn_among(work, history, hints, Lesson::Truth, names.as_slice()),
         Err(_) => Err(Stop::Memory),
     }
 }
 
 /// The same, of these functions.
-fn learn_among(work: &mut Work, history: &History, hints: &Hints, names: &[Sym]) -> Result<(), Stop>
+fn learn_among(
+    work: &mut Work,
+    history: &History,
+    hints: &Hints,
+    lesson: Lesson,
+    names: &[Sym],
+) -> Result<(), Stop>
     requires can { CanSearch history.now hints.now work.old }
     ensures grows { WorkGrows history.now work.old work.new }
     ensures out { result ≡ Err Stop.OutOfSteps → work.new.counter.used ≡ work.new.counter.limit }
 {
     let count = history.len();
     for place in 0..count {
-        learn_at(work, history, hints, names, place)?;
+        learn_at(work, history, hints, lesson, names, place)?;
     }
     Ok(())
 }
@@ -73,6 +107,7 @@ fn learn_at(
     work: &mut Work,
     history: &History,
     hints: &Hints,
+    lesson: Lesson,
     names: &[Sym],
     place: u64,
 ) -> Result<(), Stop>
@@ -83,7 +118,14 @@ fn learn_at(
 {
     ready_histories();
     if place < history.len() {
-        learn_named(work, history, hints, names, history.entry(place).name)?;
+        learn_named(
+            work,
+            history,
+            hints,
+            lesson,
+            names,
+            history.entry(place).name,
+        )?;
     }
     Ok(())
 }
@@ -93,6 +135,7 @@ fn learn_named(
     work: &mut Work,
     history: &History,
     hints: &Hints,
+    lesson: Lesson,
     names: &[Sym],
     f: Sym,
 ) -> Result<(), Stop>
@@ -102,9 +145,28 @@ fn learn_named(
     ensures out { result ≡ Err Stop.OutOfSteps → work.new.counter.used ≡ work.new.counter.limit }
 {
     if is_new(work, history, names, f) {
-        learn_kind(work, history, hints, f)
+        learn_lesson(work, history, hints, lesson, f)
     } else {
         Ok(())
+    }
+}
+
+/// Learns this of a function.
+fn learn_lesson(
+    work: &mut Work,
+    history: &History,
+    hints: &Hints,
+    lesson: Lesson,
+    f: Sym,
+) -> Result<(), Stop>
+    requires can { CanSearch history.now hints.now work.old }
+    requires function { IsNamed work.old.bank f }
+    ensures grows { WorkGrows history.now work.old work.new }
+    ensures out { result ≡ Err Stop.OutOfSteps → work.new.counter.used ≡ work.new.counter.limit }
+{
+    match lesson {
+        Lesson::Kind => learn_kind(work, history, hints, f),
+        Lesson::Truth => learn_truth(work, history, hints, f),
     }
 }
 

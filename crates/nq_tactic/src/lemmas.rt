@@ -9,7 +9,7 @@ ghost use Rattle.nq_search.specs.Goals.{CanSearch, IsGoalIn};
 ghost use Rattle.nq_search.specs.Searching.{IsFound};
 
 use crate::falls::learn_falls;
-use crate::kinds::learn_kinds;
+use crate::kinds::{learn_kinds, learn_truths};
 use crate::order::{INDUCTIONS, TURNS};
 use crate::tactic::Waterfall;
 use crate::uses::used;
@@ -81,6 +81,24 @@ fn seek_rounds(
 {
     ready_histories();
     learn_kinds(work, history, hints, goal)?;
+    seek_after_kinds(work, history, hints, goal)
+}
+
+/// The same, where it is known too which of its functions have truth values.
+fn seek_after_kinds(
+    work: &mut Work,
+    history: &History,
+    hints: &Hints,
+    goal: &[TermId],
+) -> Result<Option<u64>, Stop>
+    requires can { CanSearch history.now hints.now work.old }
+    requires goal { IsGoalIn history.now work.old goal.now }
+    ensures found { IfOk result (IsFound work.new (terms_at work.old.bank goal.now)) }
+    ensures grows { WorkGrows history.now work.old work.new }
+    ensures out { result ≡ Err Stop.OutOfSteps → work.new.counter.used ≡ work.new.counter.limit }
+{
+    ready_histories();
+    learn_truths(work, history, hints, goal)?;
     seek_after_falls(work, history, hints, goal)
 }
 

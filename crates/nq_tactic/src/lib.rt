@@ -8,14 +8,20 @@
 // the ways that lead a goal on
 mod way;
 
+// what terms are
+mod reading;
+
 // goals that are simplified
 mod simplifying;
 
 // lines that close goals
 mod arithmetic;
+mod circular;
+mod comparisons;
 mod numbers;
 mod objects;
 mod tested;
+mod told_truths;
 mod trivial;
 
 // goals that have counterexamples
@@ -44,6 +50,8 @@ mod eliminating;
 // of what kind the calls of functions are
 mod guessing;
 mod kinds;
+mod truth_lines;
+mod truths;
 
 // how measures fall
 mod falls;

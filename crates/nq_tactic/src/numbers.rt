@@ -9,6 +9,7 @@ ghost use Rattle.nq_lines.specs.Lines.{IsTermIn};
 ghost use Rattle.nq_lines.specs.OwnTerms.{HasOwnTerms};
 ghost use Rattle.nq_instances.specs.Parts.{IsLine};
 
+use crate::comparisons::add_compared;
 use nq_arithmetic::{is_number_by_law, terms_in};
 use nq_bank::{Sym, TermId, ground};
 use nq_history::History;
@@ -70,7 +71,7 @@ fn number_fact(work: &mut Work, history: &History, t: TermId) -> Result<Option<F
 }
 
 /// Adds a fact.
-fn push(facts: &mut Vec<Fact>, fact: Fact) -> Result<(), Stop>
+pub fn push(facts: &mut Vec<Fact>, fact: Fact) -> Result<(), Stop>
     ensures ok { OnOk result (facts.new.items ≡ facts.old.items ++ fact ∷ []) }
     ensures memory { result ≡ Err Stop.OutOfSteps → ⊥ }
 {
@@ -127,7 +128,7 @@ fn add_number(
 }
 
 /// The lines that terms of a goal are numbers, each term once.
-pub fn numbers_in(work: &mut Work, history: &History, goal: &[TermId]) -> Result<Vec<Fact>, Stop>
+fn numbers_of(work: &mut Work, history: &History, goal: &[TermId]) -> Result<Vec<Fact>, Stop>
     requires stands { WorkStands history.now work.old }
     requires ready { HasOwnTerms (events_at work.old.bank history.now) }
     requires goal { All (IsTermIn history.now work.old) goal.now }
@@ -139,6 +140,22 @@ pub fn numbers_in(work: &mut Work, history: &History, goal: &[TermId]) -> Result
     let mut facts = Vec::new(work.bank.alloc());
     for t in terms.as_slice() {
         add_number(work, history, &mut facts, *t)?;
+    }
+    Ok(facts)
+}
+
+/// The lines that terms of a goal are numbers, and those of the comparisons that it denies to be T.
+pub fn numbers_in(work: &mut Work, history: &History, goal: &[TermId]) -> Result<Vec<Fact>, Stop>
+    requires stands { WorkStands history.now work.old }
+    requires ready { HasOwnTerms (events_at work.old.bank history.now) }
+    requires goal { All (IsTermIn history.now work.old) goal.now }
+    ensures facts { IfOk result (λ fs. All (IsLine history.now work.new) fs.items) }
+    ensures grows { WorkGrows history.now work.old work.new }
+    ensures out { result ≡ Err Stop.OutOfSteps → work.new.counter.used ≡ work.new.counter.limit }
+{
+    let mut facts = numbers_of(work, history, goal)?;
+    for t in goal {
+        add_compared(work, history, &mut facts, *t)?;
     }
     Ok(facts)
 }

@@ -9,11 +9,14 @@ ghost use Rattle.nq_lines.specs.Lines.{IsTermIn, LineHasOnly};
 ghost use Rattle.nq_lines.specs.OwnTerms.{HasOwnTerms};
 ghost use Rattle.nq_search.specs.Goals.{IsGoalIn};
 
-use nq_bank::{Node, TermId};
+use crate::circular::circular_line;
+use crate::reading::is_call_of;
+use crate::told_truths::truth_value_line;
+use nq_bank::{Node, TermId, ground};
 use nq_history::{Hints, History};
 use nq_kernel::{Stop, Work};
 use nq_lines::{cut, equate, falsity, from_equal_false, true_or_false};
-use nq_rewrite::{is_constructor, kind_line, rewrite};
+use nq_rewrite::{is_constructor, known_recognizer, rewrite};
 
 /// The line of a term, by the line that its equation with F is F.
 fn line_apart(
@@ -68,13 +71,40 @@ fn has_kind(work: &Work, history: &History, t: TermId) -> bool
     requires term { Stands work.now.bank t }
 {
     match work.bank.node(t) {
-        Node::App(f, _) => { is_constructor(history, f) || kind_line(work, history, f).is_some() }
+        Node::App(f, _) => {
+            is_constructor(history, f) || known_recognizer(work, history, f).is_some()
+        }
         Node::Num(_) => false,
         Node::Var(_) => false,
     }
 }
 
-/// The line of a goal by the literal at an index, where that is another object than F.
+/// The line of a goal by the literal at an index, where that says of a truth value that it is T, or denies that a term equals one in which
+/// it stands.
+fn plain_line(
+    work: &mut Work,
+    history: &History,
+    hints: &Hints,
+    goal: &[TermId],
+    at: usize,
+) -> Result<Option<u64>, Stop>
+    requires stands { WorkStands history.now work.old }
+    requires ready { HasOwnTerms (events_at work.old.bank history.now) }
+    requires goal { IsGoalIn history.now work.old goal.now }
+    requires at { at < length goal.now }
+    ensures line { IfOk result (λ found. IfSome found (λ n. LineHasOnly work.new n (terms_at work.new.bank goal.now))) }
+    ensures grows { WorkGrows history.now work.old work.new }
+    ensures out { result ≡ Err Stop.OutOfSteps → work.new.counter.used ≡ work.new.counter.limit }
+{
+    if is_call_of(&work.bank, ground::EQUAL, goal[at]) {
+        truth_value_line(work, history, goal, at)
+    } else {
+        circular_line(work, history, hints, goal, at)
+    }
+}
+
+/// The line of a goal by the literal at an index, where that is another object than F, or denies that a term equals one in which it
+/// stands.
 pub fn object_line(
     work: &mut Work,
     history: &History,
@@ -93,6 +123,6 @@ pub fn object_line(
     if has_kind(work, history, goal[at]) {
         line_of_object(work, history, hints, goal[at])
     } else {
-        Ok(None)
+        plain_line(work, history, hints, goal, at)
     }
 }

@@ -4,7 +4,6 @@ use Rattle.nq_bank.specs.declared.node.TermId.{TermId}
 use Rattle.nq_bank.specs.Content.{term_at, terms_at}
 use Rattle.nq_rule.proofs.Made.{for_ok}
 use Rattle.nq_kernel.specs.declared.work.Work.{Work}
-use Rattle.nq_kernel.proofs.GrowingLemmas.{WorkGrows-refl}
 use Rattle.nq_lines.specs.Lines.{LineHasOnly}
 use Rattle.nq_arithmetic.proofs.Lemmas.{goal_same, found_of}
 use Rattle.nq_tactic.proofs.ObjectLemmas.{literal_found}
@@ -20,6 +19,3 @@ returns-then-has_kind-clause-line c =
     found_of c.line_of_object.result w1 (terms_at w0.bank goal) (terms_at w1.bank goal) (sym (goal_same h w0 w1 c.requires.stands c.line_of_object.ensures.grows goal c.requires.goal))
     (for_ok c.line_of_object.result (λ o. IfSome o (λ n. LineHasOnly w1 n (term_at w0.bank (get_or goal c.args.at d) ∷ []))) (λ o. IfSome o (λ n. LineHasOnly w1 n (terms_at w0.bank goal)))
     (λ o there. literal_found w1 w0.bank goal c.args.at d o c.requires.at there) c.line_of_object.ensures.line)
-
-pub returns-else-has_kind-clause-grows : goal.returns-else-has_kind-clause-grows
-returns-else-has_kind-clause-grows c = WorkGrows-refl c.args.history.now c.args.work.now c.requires.stands

@@ -1,0 +1,102 @@
+//! Functions whose values may be T or F, as the leaves of their bodies tell. It decides only what is tried.
+ghost use Rattle.nq_bank.specs.Content.{Stands};
+
+use crate::guessing::{BODY_LIMIT, add_name, body_of, has_name, recognized_place};
+use nq_bank::{Bank, Node, Sym, TermId, ground};
+use nq_history::History;
+use std::alloc::AllocError;
+
+/// The functions of the ground history whose values are T or F.
+const TRUTH_FUNCTIONS: [Sym; 10] = [
+    ground::TRUE,
+    ground::FALSE,
+    ground::EQUAL,
+    ground::NOT,
+    ground::AND,
+    ground::OR,
+    ground::IMPLIES,
+    ground::LESSP,
+    ground::ZEROP,
+    ground::NLISTP,
+];
+
+/// Is each value of a function T or F by what it is?
+fn is_truth_function(history: &History, f: Sym) -> bool {
+    has_name(&TRUTH_FUNCTIONS, f) || recognized_place(history, f).is_some()
+}
+
+/// May the leaves of a term within the body of a function be T or F?
+fn are_truths(bank: &Bank, history: &History, f: Sym, t: TermId) -> bool
+    requires { Stands bank.now t }
+{
+    match bank.node(t) {
+        Node::App(g, _) => {
+            let arguments = bank.args(t);
+            if g.0 == ground::IF.0 && arguments.len() == 3 {
+                are_truths(bank, history, f, arguments[1])
+                    && are_truths(bank, history, f, arguments[2])
+            } else {
+                g.0 == f.0 || is_truth_function(history, g)
+            }
+        }
+        Node::Num(_) => false,
+        Node::Var(_) => false,
+    }
+}
+
+/// May the values of a function be T or F?
+pub fn may_be_truth(bank: &Bank, history: &History, f: Sym) -> bool {
+    match body_of(bank, history, f) {
+        Some(body) => are_truths(bank, history, f, body),
+        None => false,
+    }
+}
+
+/// Adds the function of a call.
+fn add_function(bank: &Bank, names: &mut Vec<Sym>, t: TermId) -> Result<(), AllocError>
+    requires { Stands bank.now t }
+{
+    match bank.node(t) {
+        Node::App(f, _) => add_name(names, f),
+        Node::Num(_) => Ok(()),
+        Node::Var(_) => Ok(()),
+    }
+}
+
+/// Adds the functions of the sides of a term, if it is an equation.
+fn add_sides(bank: &Bank, names: &mut Vec<Sym>, t: TermId) -> Result<(), AllocError>
+    requires { Stands bank.now t }
+{
+    if let Node::App(f, _) = bank.node(t) {
+        if f.0 == ground::EQUAL.0 {
+            for a in bank.args(t) {
+                add_function(bank, names, *a)?;
+            }
+        }
+    }
+    Ok(())
+}
+
+/// Adds the functions of the sides of the equations in a term.
+fn add_compared(bank: &Bank, names: &mut Vec<Sym>, t: TermId) -> Result<(), AllocError>
+    requires { Stands bank.now t }
+{
+    add_sides(bank, names, t)?;
+    for a in bank.args(t) {
+        add_compared(bank, names, *a)?;
+    }
+    Ok(())
+}
+
+/// The functions of the sides of the equations in a goal.
+pub fn compared_in(bank: &Bank, goal: &[TermId]) -> Result<Vec<Sym>, AllocError> {
+    let mut names = Vec::new(bank.alloc());
+    for t in goal {
+        if t.0 < bank.len() {
+            if bank.size(*t) < BODY_LIMIT {
+                add_compared(bank, &mut names, *t)?;
+            }
+        }
+    }
+    Ok(names)
+}
