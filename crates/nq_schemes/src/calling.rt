@@ -7,6 +7,7 @@ use crate::parted::{Call, Place, Test};
 use crate::place::{is_condition, part_at};
 use crate::suggestion::{Recursion, arguments_at};
 use crate::terms::{is_call_of, mentions};
+use crate::tested::saying_of;
 use nq_bank::{Bank, TermId};
 use nq_history::History;
 use std::alloc::AllocError;
@@ -61,6 +62,7 @@ pub fn tests_with(
         more.push(Test {
             term: place.here,
             holds,
+            saying: saying_of(bank, place.here, holds),
         })?;
     }
     Ok(more)

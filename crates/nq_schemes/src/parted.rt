@@ -11,6 +11,17 @@ pub struct Place {
     pub here: TermId,
 }
 
+/// What a test says, in whatever words: that `(NLISTP X)` fails says what it says that `(LISTP X)` holds.
+#[derive(Clone, Copy, Debug, PartialEq, Eq)]
+pub struct Saying {
+    /// Whether it is said of the term that it is a pair.
+    pub pair: bool,
+    /// The term.
+    pub term: TermId,
+    /// Whether that holds.
+    pub holds: bool,
+}
+
 /// A term that holds, or that fails.
 #[derive(Clone, Copy, Debug, PartialEq, Eq)]
 pub struct Test {
@@ -18,6 +29,8 @@ pub struct Test {
     pub term: TermId,
     /// Whether it holds.
     pub holds: bool,
+    /// What it says so.
+    pub saying: Saying,
 }
 
 /// A recursive call, and the tests that govern it.
