@@ -77,7 +77,7 @@ pub fn learn_truths(
     ensures grows { WorkGrows history.now work.old work.new }
     ensures out { result ≡ Err Stop.OutOfSteps → work.new.counter.used ≡ work.new.counter.limit }
 {
-    match compared_in(&work.bank, goal) {
+    match compared_in(&work.bank, history, goal) {
         Ok(names) => learn_among(work, history, hints, Lesson::Truth, names.as_slice()),
         Err(_) => Err(Stop::Memory),
     }

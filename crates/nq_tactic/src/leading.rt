@@ -40,7 +40,7 @@ pub fn lead_simplified(
     ensures grows { WorkGrows history.now work.old work.new }
     ensures out { result ≡ Err Stop.OutOfSteps → work.new.counter.used ≡ work.new.counter.limit }
 {
-    let way = simplified(work, history, hints, learnt, goal)?;
+    let way = simplified(work, history, hints, learnt, plan.until, goal)?;
     Ok(Led {
         way: Way::Simplified(way),
         plan,
@@ -61,7 +61,7 @@ pub fn lead_apart(
     ensures grows { WorkGrows history.now work.old work.new }
     ensures out { result ≡ Err Stop.OutOfSteps → work.new.counter.used ≡ work.new.counter.limit }
 {
-    let way = parted(work, history, hints, goal)?;
+    let way = parted(work, history, hints, plan.until, goal)?;
     Ok(Led {
         way: Way::Simplified(way),
         plan,

@@ -18,22 +18,28 @@ use std::mem;
 /// How many literals may be rewritten in a row.
 const ROUNDS: u64 = 120;
 
-/// Into how many parts the steps are divided of which a simplification gets one.
-const SIMPLIFYING_PART: u64 = 3;
+/// Into how many parts the steps are divided of which a simplification gets one at least.
+const LEAST_PART: u64 = 25;
 
-/// The count of used steps at which a simplification that begins now ends.
-fn until_of(work: &Work) -> u64 {
-    work.counter
-        .used()
-        .saturating_add(work.counter.limit() / SIMPLIFYING_PART)
+/// Into how many parts the steps are divided of which a simplification gets no more than one.
+const MOST_PART: u64 = 3;
+
+/// The count of used steps at which a simplification ends that begins now, in a plan that ends at another: it gets what is left to the
+/// plan, within its bounds.
+fn until_of(work: &Work, end: u64) -> u64 {
+    let used = work.counter.used();
+    let limit = work.counter.limit();
+    let left = end.saturating_sub(used);
+    used.saturating_add(left.max(limit / LEAST_PART).min(limit / MOST_PART))
 }
 
-/// Simplifies a goal, with what was learnt in the same proof.
+/// Simplifies a goal, with what was learnt in the same proof, in a plan that ends at a count of used steps.
 pub fn simplified(
     work: &mut Work,
     history: &History,
     hints: &Hints,
     learnt: &mut Learnt,
+    end: u64,
     goal: &[TermId],
 ) -> Result<Simplified, Stop>
     requires can { CanSearch history.now hints.now work.old }
@@ -44,7 +50,7 @@ pub fn simplified(
 {
     own_terms();
     let basis = make_basis(work, history)?;
-    let until = until_of(work);
+    let until = until_of(work, end);
     let mut rewriter = LiteralRewriter::new(work.bank.alloc(), hints, until);
     mem::swap(learnt, &mut rewriter.learnt);
     let simplified = simplify_goal(work, history, &basis, &mut rewriter, goal, ROUNDS);
@@ -52,11 +58,12 @@ pub fn simplified(
     simplified
 }
 
-/// Takes a goal apart: it is simplified without rules, and no recursive function is opened.
+/// Takes a goal apart, in such a plan: it is simplified without rules, and no recursive function is opened.
 pub fn parted(
     work: &mut Work,
     history: &History,
     hints: &Hints,
+    end: u64,
     goal: &[TermId],
 ) -> Result<Simplified, Stop>
     requires can { CanSearch history.now hints.now work.old }
@@ -68,7 +75,7 @@ pub fn parted(
     own_terms();
     let light = light_hints(work, history, hints)?;
     let basis = make_basis(work, history)?;
-    let until = until_of(work);
+    let until = until_of(work, end);
     let mut rewriter = LiteralRewriter::new(work.bank.alloc(), &light, until);
     simplify_goal(work, history, &basis, &mut rewriter, goal, ROUNDS)
 }

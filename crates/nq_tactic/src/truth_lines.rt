@@ -24,7 +24,7 @@ pub fn learn_truth(work: &mut Work, history: &History, hints: &Hints, f: Sym) ->
     ensures grows { WorkGrows history.now work.old work.new }
     ensures out { result ≡ Err Stop.OutOfSteps → work.new.counter.used ≡ work.new.counter.limit }
 {
-    if may_be_truth(&work.bank, history, f) {
+    if may_be_truth(work, history, f) {
         learn_defined(work, history, hints, f)
     } else {
         Ok(())

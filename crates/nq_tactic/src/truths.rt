@@ -1,13 +1,16 @@
 //! Functions whose values may be T or F, as the leaves of their bodies tell. It decides only what is tried.
 ghost use Rattle.nq_bank.specs.Content.{Stands};
+ghost use Rattle.nq_kernel.specs.Growing.{WorkStands};
 
 use crate::guessing::{BODY_LIMIT, add_name, body_of, has_name, recognized_place};
 use nq_bank::{Bank, Node, Sym, TermId, ground};
 use nq_history::History;
+use nq_kernel::Work;
+use nq_rewrite::{kind_line, known_recognizer};
 use std::alloc::AllocError;
 
 /// The functions of the ground history whose values are T or F.
-const TRUTH_FUNCTIONS: [Sym; 10] = [
+const TRUTH_FUNCTIONS: [Sym; 14] = [
     ground::TRUE,
     ground::FALSE,
     ground::EQUAL,
@@ -15,7 +18,11 @@ const TRUTH_FUNCTIONS: [Sym; 10] = [
     ground::AND,
     ground::OR,
     ground::IMPLIES,
+    ground::IFF,
     ground::LESSP,
+    ground::GREATERP,
+    ground::LEQ,
+    ground::GEQ,
     ground::ZEROP,
     ground::NLISTP,
 ];
@@ -25,18 +32,26 @@ fn is_truth_function(history: &History, f: Sym) -> bool {
     has_name(&TRUTH_FUNCTIONS, f) || recognized_place(history, f).is_some()
 }
 
-/// May the leaves of a term within the body of a function be T or F?
-fn are_truths(bank: &Bank, history: &History, f: Sym, t: TermId) -> bool
-    requires { Stands bank.now t }
+/// Is it known of a function that its calls are T where they are true?
+fn is_known_truth(work: &Work, history: &History, f: Sym) -> bool
+    requires { WorkStands history.now work.now }
 {
-    match bank.node(t) {
+    kind_line(work, history, f).is_some() && known_recognizer(work, history, f).is_none()
+}
+
+/// May the leaves of a term within the body of a function be T or F?
+fn are_truths(work: &Work, history: &History, f: Sym, t: TermId) -> bool
+    requires stands { WorkStands history.now work.now }
+    requires term { Stands work.now.bank t }
+{
+    match work.bank.node(t) {
         Node::App(g, _) => {
-            let arguments = bank.args(t);
+            let arguments = work.bank.args(t);
             if g.0 == ground::IF.0 && arguments.len() == 3 {
-                are_truths(bank, history, f, arguments[1])
-                    && are_truths(bank, history, f, arguments[2])
+                are_truths(work, history, f, arguments[1])
+                    && are_truths(work, history, f, arguments[2])
             } else {
-                g.0 == f.0 || is_truth_function(history, g)
+                g.0 == f.0 || is_truth_function(history, g) || is_known_truth(work, history, g)
             }
         }
         Node::Num(_) => false,
@@ -45,9 +60,11 @@ fn are_truths(bank: &Bank, history: &History, f: Sym, t: TermId) -> bool
 }
 
 /// May the values of a function be T or F?
-pub fn may_be_truth(bank: &Bank, history: &History, f: Sym) -> bool {
-    match body_of(bank, history, f) {
-        Some(body) => are_truths(bank, history, f, body),
+pub fn may_be_truth(work: &Work, history: &History, f: Sym) -> bool
+    requires { WorkStands history.now work.now }
+{
+    match body_of(&work.bank, history, f) {
+        Some(body) => are_truths(work, history, f, body),
         None => false,
     }
 }
@@ -88,8 +105,49 @@ fn add_compared(bank: &Bank, names: &mut Vec<Sym>, t: TermId) -> Result<(), Allo
     Ok(())
 }
 
-/// The functions of the sides of the equations in a goal.
-pub fn compared_in(bank: &Bank, goal: &[TermId]) -> Result<Vec<Sym>, AllocError> {
+/// Adds the functions of the leaves of a term within a body.
+fn add_leaves(bank: &Bank, names: &mut Vec<Sym>, t: TermId) -> Result<(), AllocError>
+    requires { Stands bank.now t }
+{
+    match bank.node(t) {
+        Node::App(g, _) => {
+            let arguments = bank.args(t);
+            if g.0 == ground::IF.0 && arguments.len() == 3 {
+                add_leaves(bank, names, arguments[1])?;
+                add_leaves(bank, names, arguments[2])
+            } else {
+                add_name(names, g)
+            }
+        }
+        Node::Num(_) => Ok(()),
+        Node::Var(_) => Ok(()),
+    }
+}
+
+/// Adds the functions of the leaves of the body of the function at a place.
+fn add_opened(
+    bank: &Bank,
+    history: &History,
+    names: &mut Vec<Sym>,
+    place: usize,
+) -> Result<(), AllocError> {
+    if place < names.len() {
+        if let Some(body) = body_of(bank, history, names[place]) {
+            add_leaves(bank, names, body)?;
+        }
+    }
+    Ok(())
+}
+
+/// How many functions are opened in search of others.
+const OPENED_LIMIT: usize = 20;
+
+/// The functions of the sides of the equations in a goal, and of the leaves of the bodies of such.
+pub fn compared_in(
+    bank: &Bank,
+    history: &History,
+    goal: &[TermId],
+) -> Result<Vec<Sym>, AllocError> {
     let mut names = Vec::new(bank.alloc());
     for t in goal {
         if t.0 < bank.len() {
@@ -97,6 +155,9 @@ pub fn compared_in(bank: &Bank, goal: &[TermId]) -> Result<Vec<Sym>, AllocError>
                 add_compared(bank, &mut names, *t)?;
             }
         }
+    }
+    for place in 0..OPENED_LIMIT {
+        add_opened(bank, history, &mut names, place)?;
     }
     Ok(names)
 }

@@ -1,6 +1,3 @@
-use Rattle.std.proofs.Common.{subst}
-use Rattle.std.specs.Prelude.{IsSome, IfSome}
-use Rattle.nq_kernel.specs.declared.work.Work.{Work}
 use Rattle.nq_kernel.proofs.GrowingLemmas.{WorkGrows-trans}
 use Rattle.nq_lines.proofs.LineLemmas.{leads_only, only_stands}
 use Rattle.nq_lines.proofs.TermLemmas.{term_grown}

@@ -1,7 +1,7 @@
 use Rattle.std.proofs.Common.{subst}
 use Rattle.std.specs.Prelude.{IfSome}
 use Rattle.nq_kernel.specs.declared.work.Work.{Work}
-use Rattle.nq_kernel.specs.Growing.{LineStands, WorkGrows}
+use Rattle.nq_kernel.specs.Growing.{LineStands}
 use Rattle.nq_kernel.proofs.GrowingLemmas.{WorkGrows-trans}
 use Rattle.nq_lines.proofs.FactLemmas.{own_terms_grown}
 use Rattle.nq_lines.proofs.LineLemmas.{line_grown}

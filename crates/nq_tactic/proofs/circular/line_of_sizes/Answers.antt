@@ -1,14 +1,11 @@
-use Rattle.std.proofs.Common.{◌∷◌, [], arith}
-use Rattle.std.specs.Prelude.{IfSome}
+use Rattle.std.proofs.Common.{◌∷◌, []}
 use Rattle.nq_bank.specs.declared.node.TermId.{TermId}
-use Rattle.nq_rule.proofs.Made.{for_ok}
 use Rattle.nq_kernel.specs.declared.work.Work.{Work}
-use Rattle.nq_kernel.specs.Growing.{LineStands, WorkGrows}
+use Rattle.nq_kernel.specs.Growing.{WorkGrows}
 use Rattle.nq_kernel.proofs.GrowingLemmas.{WorkGrows-trans}
 use Rattle.nq_lines.specs.declared.facts.Fact.{Fact}
-use Rattle.nq_lines.specs.Lines.{IsTermIn, LineHasOnly}
+use Rattle.nq_lines.specs.Lines.{IsTermIn}
 use Rattle.nq_lines.proofs.FactLemmas.{own_terms_grown}
-use Rattle.nq_lines.proofs.LineLemmas.{only_stands}
 use Rattle.nq_lines.proofs.TermLemmas.{term_grown}
 use Rattle.nq_instances.specs.Parts.{IsLine}
 use Rattle.nq_elim.proofs.ListLemmas.{all_none, all_cons}
