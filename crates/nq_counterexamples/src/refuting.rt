@@ -12,6 +12,9 @@ use std::alloc::AllocError;
 /// How often a goal is tried.
 const TRIALS: u32 = 100;
 
+/// The most nodes of a literal that is tried.
+const NODE_LIMIT: u64 = 3000;
+
 /// After how many trials that tell nothing no more are made.
 const STUCK_TRIALS: u32 = 20;
 
@@ -56,9 +59,22 @@ fn fails_once(
     Ok(true)
 }
 
+/// Is each literal of a goal small enough to be tried?
+fn are_small(bank: &Bank, goal: &[TermId]) -> bool {
+    for t in goal {
+        if t.0 >= bank.len() || bank.size(*t) > NODE_LIMIT {
+            return false;
+        }
+    }
+    true
+}
+
 /// Has a goal a counterexample among small values? Where the answer is false, it may have one all the same. It fails only for
 /// want of memory.
 pub fn is_refuted(bank: &Bank, history: &History, goal: &[TermId]) -> Result<bool, AllocError> {
+    if !are_small(bank, goal) {
+        return Ok(false);
+    }
     let variables = variables_of(bank, history, goal)?;
     let mut dice = Dice::new();
     let mut patience = STUCK_TRIALS;

@@ -25,7 +25,7 @@ use nq_reduce::{Known, argument_of, kept_among};
 const ASK_LIMIT: u32 = 12;
 
 /// The most nodes of a test that arithmetic is asked about.
-const NODE_LIMIT: u64 = 60;
+pub const NODE_LIMIT: u64 = 60;
 
 /// The most literals of a goal of arithmetic.
 const TOLD_LIMIT: usize = 8;

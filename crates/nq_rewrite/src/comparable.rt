@@ -5,7 +5,7 @@ ghost use Rattle.nq_kernel.specs.Growing.{WorkStands};
 ghost use Rattle.nq_lines.specs.Lines.{IsTermIn};
 ghost use Rattle.nq_reduce.specs.Rewriting.{CanRewrite};
 
-use crate::arithmetic::plain_of;
+use crate::arithmetic::{NODE_LIMIT, plain_of};
 use crate::terms::function_of;
 use nq_bank::{Bank, Sym, TermId, ground};
 use nq_history::History;
@@ -58,13 +58,16 @@ fn are_nested(bank: &Bank, a: TermId, b: TermId) -> bool
     is_summand(bank, a, b) || is_summand(bank, b, a)
 }
 
-/// Does an assumption compare two numbers of which one stands in this one, or this one in it?
+/// Does an assumption that arithmetic is told compare two numbers of which one stands in this one, or this one in it?
 fn tells_of(work: &Work, history: &History, assumption: TermId, a: TermId) -> bool
     requires stands { WorkStands history.now work.now }
     requires assumption { IsTermIn history.now work.now assumption }
     requires number { Stands work.now.bank a }
 {
     let bank = &work.bank;
+    if bank.size(assumption) > NODE_LIMIT {
+        return false;
+    }
     match two_of(bank, ground::LESSP, plain_of(work, history, assumption)) {
         Some((left, right)) => are_nested(bank, left, a) || are_nested(bank, right, a),
         None => false,

@@ -21,6 +21,9 @@ use nq_lines::{Equated, Fact, Sides, congruent, cut, deny, equate, has_only, opp
 use nq_reduce::argument_of;
 use nq_rewrite::{one_call, rewrite};
 
+/// The most nodes of an equation whose sides are looked through.
+const NODE_LIMIT: u64 = 3000;
+
 /// Does a term stand within another?
 fn is_within(bank: &Bank, part: TermId, t: TermId) -> bool
     requires { Stands bank.now t }
@@ -33,10 +36,13 @@ fn is_within(bank: &Bank, part: TermId, t: TermId) -> bool
     false
 }
 
-/// Does one of the two arguments of a call stand within the other?
+/// Does one of the two arguments of a call, if it is small enough to be looked through, stand within the other?
 fn is_circular(bank: &Bank, t: TermId) -> bool
     requires { Stands bank.now t }
 {
+    if bank.size(t) >= NODE_LIMIT {
+        return false;
+    }
     match bank.args(t) {
         [left, right] => is_within(bank, *left, *right) || is_within(bank, *right, *left),
         _ => false,
