@@ -341,6 +341,34 @@ fn add_round(
     add_laws(work, history, goal, terms, found, round)
 }
 
+/// The same, if the round before added a fact. It tells whether this one does, or is the first, in which no guard is asked about.
+fn add_round_after(
+    work: &mut Work,
+    history: &History,
+    goal: &[TermId],
+    instances: &[Fact],
+    terms: &[TermId],
+    found: &mut Vec<Assumption>,
+    round: u32,
+    added: bool,
+) -> Result<bool, Stop>
+    requires stands { WorkStands history.now work.old }
+    requires goal { All (IsTermIn history.now work.old) goal.now }
+    requires instances { All (IsLine history.now work.old) instances.now }
+    requires terms { All (IsTermIn history.now work.old) terms.now }
+    requires found { All (IsAssumptionIn history.now work.old) found.old.items }
+    ensures found { OnOk result (All (IsAssumptionIn history.now work.new) found.new.items) }
+    ensures grows { WorkGrows history.now work.old work.new }
+    ensures out { result ≡ Err Stop.OutOfSteps → work.new.counter.used ≡ work.new.counter.limit }
+{
+    if !added {
+        return Ok(false);
+    }
+    let before = found.len();
+    add_round(work, history, goal, instances, terms, found, round)?;
+    Ok(round == 0 || found.len() > before)
+}
+
 /// A goal's literals, and the terms of these instances.
 fn with_instances(
     work: &Work,
@@ -377,8 +405,9 @@ pub fn facts_of(
     let whole = with_instances(work, history, goal, instances)?;
     let terms = terms_in(work, history, whole.as_slice())?;
     let mut found = Vec::new(work.bank.alloc());
+    let mut added = true;
     for round in 0..ROUNDS {
-        add_round(
+        added = add_round_after(
             work,
             history,
             goal,
@@ -386,6 +415,7 @@ pub fn facts_of(
             terms.as_slice(),
             &mut found,
             round,
+            added,
         )?;
     }
     Ok(found)

@@ -8,7 +8,7 @@ use crate::reading::copied;
 use nq_bank::TermId;
 use nq_history::History;
 use nq_kernel::{Stop, Work};
-use nq_linear::{Found, LinearAnswer, find, refute};
+use nq_linear::{LinearAnswer, eliminates, refute};
 
 /// Adds the line of literals that are refuted, if they are.
 pub fn refuted(work: &mut Work, history: &History, literals: &[TermId]) -> Result<Option<u64>, Stop>
@@ -44,18 +44,14 @@ pub fn with_literal(
     Ok(all)
 }
 
-/// Are literals refuted? No line is added.
+/// Does linear arithmetic refute literals? No line is added, and that some are is only a guess.
 pub fn are_refuted(work: &Work, history: &History, literals: &[TermId]) -> Result<bool, Stop>
     requires literals { All (IsTermIn history.now work.now) literals.now }
     ensures memory { result ≡ Err Stop.OutOfSteps → ⊥ }
 {
     let _ = history.shells();
-    match find(&work.bank, literals) {
-        Ok(Found::Refuted(_)) => Ok(true),
-        Ok(Found::Nothing) => Ok(false),
-        Ok(Found::Passes(_, _)) => Ok(false),
-        Ok(Found::Wide(_)) => Ok(false),
-        Ok(Found::TooMany) => Ok(false),
+    match eliminates(&work.bank, literals) {
+        Ok(refuted) => Ok(refuted),
         Err(_) => Err(Stop::Memory),
     }
 }

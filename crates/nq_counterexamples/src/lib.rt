@@ -25,4 +25,4 @@ mod variables;
 // goals that are tried
 mod refuting;
 
-pub use refuting::{is_one_refuted, is_refuted};
+pub use refuting::{is_one_refuted, is_one_refuted_soon, is_refuted};

@@ -12,6 +12,9 @@ use std::alloc::AllocError;
 /// How often a goal is tried.
 const TRIALS: u32 = 100;
 
+/// How often a goal is tried of which only a few trials are made.
+const FEW_TRIALS: u32 = 20;
+
 /// The most nodes of a literal that is tried.
 const NODE_LIMIT: u64 = 3000;
 
@@ -72,13 +75,23 @@ fn are_small(bank: &Bank, goal: &[TermId]) -> bool {
 /// Has a goal a counterexample among small values? Where the answer is false, it may have one all the same. It fails only for
 /// want of memory.
 pub fn is_refuted(bank: &Bank, history: &History, goal: &[TermId]) -> Result<bool, AllocError> {
+    is_refuted_within(bank, history, goal, TRIALS)
+}
+
+/// The same, by so many trials.
+fn is_refuted_within(
+    bank: &Bank,
+    history: &History,
+    goal: &[TermId],
+    trials: u32,
+) -> Result<bool, AllocError> {
     if !are_small(bank, goal) {
         return Ok(false);
     }
     let variables = variables_of(bank, history, goal)?;
     let mut dice = Dice::new();
     let mut patience = STUCK_TRIALS;
-    for _ in 0..TRIALS {
+    for _ in 0..trials {
         match fails_once(bank, history, &mut dice, variables.as_slice(), goal) {
             Ok(true) => return Ok(true),
             Ok(false) => {}
@@ -100,8 +113,27 @@ pub fn is_one_refuted(
     history: &History,
     goals: &[Vec<TermId>],
 ) -> Result<bool, AllocError> {
+    is_one_refuted_within(bank, history, goals, TRIALS)
+}
+
+/// The same, where each goal is tried a few times.
+pub fn is_one_refuted_soon(
+    bank: &Bank,
+    history: &History,
+    goals: &[Vec<TermId>],
+) -> Result<bool, AllocError> {
+    is_one_refuted_within(bank, history, goals, FEW_TRIALS)
+}
+
+/// The same, by so many trials of each goal.
+fn is_one_refuted_within(
+    bank: &Bank,
+    history: &History,
+    goals: &[Vec<TermId>],
+    trials: u32,
+) -> Result<bool, AllocError> {
     for goal in goals {
-        if is_refuted(bank, history, goal.as_slice())? {
+        if is_refuted_within(bank, history, goal.as_slice(), trials)? {
             return Ok(true);
         }
     }

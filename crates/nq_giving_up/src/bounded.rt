@@ -1,18 +1,19 @@
-//! A mover that is asked for the trace of a proof: only so long, and of no goal that has a counterexample, since no proof uses one.
+//! A mover that is asked for the trace of a proof: only so long, and of no goal of which a few trials find a counterexample, since no
+//! proof uses one.
 ghost use Rattle.std.specs.Prelude.{◌≡◌, Err};
 
 use nq_bank::{Bank, TermId};
-use nq_counterexamples::is_one_refuted;
+use nq_counterexamples::is_one_refuted_soon;
 use nq_history::{Hints, History};
 use nq_kernel::{Stop, Work};
 use nq_waterfall::{Ancestor, Lead, Mover, Turn};
 
-/// Does a turn lead to a goal that has a counterexample?
+/// Does a turn lead to a goal of which a few trials find a counterexample?
 fn leads_astray<W>(bank: &Bank, history: &History, turn: &Turn<W>) -> Result<bool, Stop>
     ensures { result ≡ Err Stop.OutOfSteps → ⊥ }
 {
     match turn {
-        Turn::Led(lead) => match is_one_refuted(bank, history, lead.nexts.as_slice()) {
+        Turn::Led(lead) => match is_one_refuted_soon(bank, history, lead.nexts.as_slice()) {
             Ok(refuted) => Ok(refuted),
             Err(_) => Err(Stop::Memory),
         },
@@ -22,8 +23,8 @@ fn leads_astray<W>(bank: &Bank, history: &History, turn: &Turn<W>) -> Result<boo
     }
 }
 
-/// Moves goals until so many steps are used, and tells nothing of goals after that, nor where a move leads to a goal that has a
-/// counterexample.
+/// Moves goals until so many steps are used, and tells nothing of goals after that, nor where a move leads to a goal of which a few
+/// trials find a counterexample.
 #[derive(Drop)]
 pub struct Bounded<M> {
     /// What moves goals.

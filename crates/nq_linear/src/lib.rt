@@ -27,5 +27,5 @@ mod faults;
 mod answer;
 mod refuting;
 
-pub use answer::{Found, find};
+pub use answer::{Found, eliminates, find};
 pub use refuting::{LinearAnswer, refute};

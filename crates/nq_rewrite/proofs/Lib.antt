@@ -2,3 +2,4 @@ mod StepLemmas
 mod KindLemmas
 mod ConditionLemmas
 mod ArithmeticLemmas
+mod TruthLemmas

@@ -6,6 +6,7 @@ ghost use Rattle.nq_lines.specs.Lines.{IsTermIn};
 
 use crate::measures::is_recursive;
 use crate::terms::{function_of, is_call_of};
+use crate::true_calls::is_known_truth;
 use nq_bank::{Bank, Sym, TermId, ground};
 use nq_history::History;
 use nq_kernel::Work;
@@ -24,12 +25,32 @@ fn is_truth_function(history: &History, f: Sym) -> bool {
     false
 }
 
-/// Is a term T or F by an axiom?
-fn is_truth(bank: &Bank, history: &History, t: TermId) -> bool
-    requires { Stands bank.now t }
+/// Is a term a call of a function whose values are T or F by an axiom, or of LESSP, where that is known of it? An equation of such a
+/// call is divided. One of two calls of defined functions serves as it stands, as a hypothesis of an induction does.
+fn is_plain_truth(work: &Work, history: &History, t: TermId) -> bool
+    requires stands { WorkStands history.now work.now }
+    requires term { IsTermIn history.now work.now t }
 {
-    match function_of(bank, t) {
-        Some(f) => f.0 == ground::TRUE.0 || is_truth_function(history, f),
+    match function_of(&work.bank, t) {
+        Some(f) => {
+            is_truth_function(history, f)
+                || (f.0 == ground::LESSP.0 && is_known_truth(work, history, f))
+        }
+        None => false,
+    }
+}
+
+/// Is a term T, or a call of a function whose values are known to be T or F?
+fn is_truth(work: &Work, history: &History, t: TermId) -> bool
+    requires stands { WorkStands history.now work.now }
+    requires term { IsTermIn history.now work.now t }
+{
+    match function_of(&work.bank, t) {
+        Some(f) => {
+            f.0 == ground::TRUE.0
+                || is_plain_truth(work, history, t)
+                || is_known_truth(work, history, f)
+        }
         None => false,
     }
 }
@@ -45,14 +66,16 @@ fn may_divide(bank: &Bank, history: &History, t: TermId) -> bool
 }
 
 /// Is an equation of these two divided by the first?
-fn is_divided(bank: &Bank, history: &History, p: TermId, q: TermId) -> bool
-    requires first { Stands bank.now p }
-    requires second { Stands bank.now q }
+fn is_divided(work: &Work, history: &History, p: TermId, q: TermId) -> bool
+    requires stands { WorkStands history.now work.now }
+    requires first { IsTermIn history.now work.now p }
+    requires second { IsTermIn history.now work.now q }
 {
-    if bank.is_value(p) || !may_divide(bank, history, p) {
+    if work.bank.is_value(p) || !may_divide(&work.bank, history, p) {
         return false;
     }
-    is_call_of(bank, ground::FALSE, q) || (is_truth(bank, history, p) && is_truth(bank, history, q))
+    is_call_of(&work.bank, ground::FALSE, q)
+        || (is_plain_truth(work, history, p) && is_truth(work, history, q))
 }
 
 /// The side of an equation by which it is divided.
@@ -62,9 +85,9 @@ fn dividing_side(work: &Work, history: &History, p: TermId, q: TermId) -> Option
     requires second { IsTermIn history.now work.now q }
     ensures { IfSome result (IsTermIn history.now work.now) }
 {
-    if is_divided(&work.bank, history, p, q) {
+    if is_divided(work, history, p, q) {
         Some(p)
-    } else if is_divided(&work.bank, history, q, p) {
+    } else if is_divided(work, history, q, p) {
         Some(q)
     } else {
         None

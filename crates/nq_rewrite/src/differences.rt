@@ -9,7 +9,9 @@ ghost use Rattle.nq_lines.specs.Lines.{IsTermIn};
 ghost use Rattle.nq_reduce.specs.Rewriting.{CanRewrite, IsRewritten};
 
 use crate::arithmetic::{denied, line_by_arithmetic};
+use crate::cancelling::reduce_cancelled;
 use crate::kinded::reduce_kinded;
+use crate::true_calls::reduce_true;
 use nq_arithmetic::zero;
 use nq_bank::{Bank, TermId, ground};
 use nq_history::{Hints, History};
@@ -116,7 +118,7 @@ fn zero_by_arithmetic(
 }
 
 /// One term is another, where linear arithmetic shows it.
-fn equal_to(
+pub fn equal_to(
     work: &mut Work,
     history: &History,
     hints: &Hints,
@@ -134,7 +136,8 @@ fn equal_to(
     equal_by_arithmetic(work, history, hints, assumed, t, other, equation)
 }
 
-/// A single step on a call, where there is none a difference that is nothing is 0.
+/// A single step on a call. Where there is none, a difference that is nothing is 0, and a call that is assumed, of a function known to
+/// give truth values, is T.
 pub fn reduce_numbered(
     work: &mut Work,
     history: &History,
@@ -151,11 +154,32 @@ pub fn reduce_numbered(
     if step.line.is_some() {
         Ok(step)
     } else {
+        reduce_told(work, history, hints, assumed, t)
+    }
+}
+
+/// A call that is true is T, where that is known of its function; any other, if it is a difference that is nothing, is 0.
+fn reduce_told(
+    work: &mut Work,
+    history: &History,
+    hints: &Hints,
+    assumed: &[TermId],
+    t: TermId,
+) -> Result<Rewritten, Stop>
+    requires can { CanRewrite history.now work.old assumed.now t }
+    ensures ok { IfOk result (λ r. IsRewritten history.now work.new (terms_at work.old.bank assumed.now) (term_at work.old.bank t) r) }
+    ensures grows { WorkGrows history.now work.old work.new }
+    ensures out { result ≡ Err Stop.OutOfSteps → work.new.counter.used ≡ work.new.counter.limit }
+{
+    let step = reduce_true(work, history, assumed, t)?;
+    if step.line.is_some() {
+        Ok(step)
+    } else {
         reduce_difference(work, history, hints, assumed, t)
     }
 }
 
-/// A difference that is nothing is 0.
+/// A difference that is nothing is 0, and one that takes a summand from a sum is that of the others.
 fn reduce_difference(
     work: &mut Work,
     history: &History,
@@ -171,6 +195,6 @@ fn reduce_difference(
     if is_nothing(work, history, assumed, t) {
         zero_by_arithmetic(work, history, hints, assumed, t)
     } else {
-        Ok(unchanged(t))
+        reduce_cancelled(work, history, hints, assumed, t)
     }
 }

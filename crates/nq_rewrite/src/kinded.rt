@@ -211,7 +211,7 @@ fn reduce_from(
 
 /// The same, where what a line shows is assumed too.
 #[cycle(kinded)]
-fn reduce_under(
+pub fn reduce_under(
     work: &mut Work,
     history: &History,
     assumed: &[TermId],
@@ -252,7 +252,7 @@ fn reduce_assumed(
 }
 
 /// A step that rests on what a line shows, without that.
-fn without_kind(
+pub fn without_kind(
     work: &mut Work,
     history: &History,
     assumed: &[TermId],

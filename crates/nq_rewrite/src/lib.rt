@@ -25,9 +25,11 @@ mod way;
 mod kinded;
 mod kinds;
 mod told_kinds;
+mod true_calls;
 
 // what linear arithmetic tells of tests, and of differences
 mod arithmetic;
+mod cancelling;
 mod comparable;
 mod differences;
 
@@ -43,6 +45,9 @@ mod comparing;
 // laws of IF
 mod conditions;
 
+// numbers that are made of their own parts
+mod remade;
+
 // single steps
 mod steps;
 
@@ -55,6 +60,7 @@ mod telling;
 mod opening;
 mod outside;
 mod reducing;
+mod remaking;
 mod rewriting;
 mod selecting;
 mod testing;
@@ -68,3 +74,4 @@ pub use learnt::Learnt;
 pub use rules::{Rules, make_rules};
 pub use telling::is_constructor;
 pub use told_kinds::told_kind;
+pub use true_calls::{is_known_truth, known_at};

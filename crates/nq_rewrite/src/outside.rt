@@ -9,6 +9,7 @@ ghost use Rattle.nq_reduce.specs.Rewriting.{CanRewrite, IsRewritten};
 use crate::differences::reduce_numbered;
 use crate::opening::rewrite_by_opening;
 use crate::reducing::try_rules;
+use crate::remaking::rewrite_remade;
 use crate::rewriting::rewrite_term;
 use crate::search::Search;
 use crate::steps::lifted_test;
@@ -63,7 +64,7 @@ fn rewrite_call(
     let step = reduce_numbered(work, history, way.hints, assumed, t)?;
     match step.line {
         Some(_) => rewrite_on(work, history, way, search, assumed, depth, t, step),
-        None => rewrite_further(work, history, way, search, assumed, depth, t),
+        None => rewrite_remade(work, history, way, search, assumed, depth, t),
     }
 }
 
@@ -92,7 +93,7 @@ pub fn rewrite_on(
 
 /// Rewrites a term by a rule or an opening. A call that makes an opening not worth it gives that up.
 #[cycle(rewriting)]
-fn rewrite_further(
+pub fn rewrite_further(
     work: &mut Work,
     history: &History,
     way: &Way<'_>,

@@ -330,7 +330,7 @@ fn reduce_conclusion(
 
 /// Rewrites a hypothesis, which is relieved where what comes of it is known to be true.
 #[cycle(rewriting)]
-fn relieve(
+pub fn relieve(
     work: &mut Work,
     history: &History,
     way: &Way<'_>,

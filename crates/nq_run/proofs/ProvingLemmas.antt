@@ -1,5 +1,5 @@
 -- The try of a lemma, over a bank that its proof grows.
-use Rattle.std.proofs.Common.{◌≡◌, ℕ, zero, suc, true, List, [], ◌∷◌, ap, refl, sym, subst, ◌∙◌, arith}
+use Rattle.std.proofs.Common.{◌≡◌, ℕ, zero, suc, true, Option, List, [], ◌∷◌, length, take, ap, refl, sym, subst, ◌∙◌, arith}
 use Rattle.std.specs.Prelude.{All, Some}
 use Rattle.nq_logic.specs.Terms.{Name, Term, IsTerm}
 use Rattle.nq_logic.specs.Formulas.{holds}
@@ -12,20 +12,21 @@ use Rattle.nq_bank.specs.declared.node.Sym.{Sym}
 use Rattle.nq_bank.specs.declared.node.TermId.{TermId}
 use Rattle.nq_bank.specs.Content.{Content, Grows, IsNamed, Stands, term_at, text_at}
 use Rattle.nq_bank.specs.Marks.{CanRelease, IsMarkOf, released}
-use Rattle.nq_bank.proofs.Growth.{term_at-grown, text_at-grown}
+use Rattle.nq_bank.proofs.Growth.{IsNamed-grown, Stands-grown, term_at-grown, text_at-grown}
 use Rattle.nq_proof.specs.Laws.{LinesHold}
 use Rattle.nq_proof.specs.Rules.{has_only}
 use Rattle.nq_history.specs.declared.entry.Entry.{Entry}
 use Rattle.nq_history.specs.Events.{events_at, HistoryStands}
 use Rattle.nq_history.proofs.HistoryLemmas.{events_at-grown}
 use Rattle.nq_kernel.specs.declared.rule.Line.{Line}
+use Rattle.nq_kernel.specs.declared.prescription.Prescription.{Prescription}
 use Rattle.nq_kernel.specs.declared.verdict.Proof.TheVariants.{First, Waterfall}
 use Rattle.nq_kernel.specs.declared.verdict.Verdict.{Verdict}
 use Rattle.nq_kernel.specs.declared.verdict.Verdict.TheVariants.{Proved, Failed, OutOfSteps, NotYet}
 use Rattle.nq_kernel.specs.declared.work.Work.{Work}
-use Rattle.nq_kernel.specs.Growing.{PrescriptionStands, WorkGrows, WorkStands}
+use Rattle.nq_kernel.specs.Growing.{CountsUp, LogGrows, PrescriptionStands, WorkGrows, WorkStands}
 use Rattle.nq_kernel.specs.Meaning.{IsOver, clause_at}
-use Rattle.nq_kernel.specs.Over.{TermIsIn}
+use Rattle.nq_kernel.specs.Over.{IsVariable, RulesAreOver, TermIsIn}
 use Rattle.nq_kernel.specs.Proving.{IsFirstPass, IsTold}
 use Rattle.nq_kernel.specs.Ready.{WorkHolds}
 use Rattle.nq_block.specs.declared.closing.Closing.TheVariants as closing
@@ -34,7 +35,11 @@ use Rattle.nq_block.specs.Names.{HasSymbols}
 use Rattle.nq_spelling.specs.SpelledEvents.{IsSpelledFormula}
 use Rattle.nq_answers.specs.Spending.{IsUsedUp}
 use Rattle.nq_run.specs.Outcome.{AreBlocks}
-use Rattle.nq_run.specs.Sessions.{IsFoundBy, IsShownBy, found_claims, found_of, line_in}
+use Rattle.nq_kernel.proofs.GrowingLemmas.{WorkGrows-trans, bank_grows, uncounted}
+use Rattle.nq_needed.specs.Keeping.{IsShortened}
+use Rattle.nq_needed.specs.declared.shortening.Shortened.{Shortened}
+use Rattle.nq_run.specs.Sessions.{IsFoundBy, IsShownBy, StandsFor, found_claims, found_of, line_in, with_line}
+use Rattle.nq_run.specs.declared.proving.Shown.{Shown}
 use Rattle.nq_run.specs.declared.proving.Found.{Found}
 use Rattle.nq_run.specs.declared.proving.Found.TheVariants as finding
 use Rattle.nq_run.specs.declared.proving.Found.TheVariants.{Fragment, Moves}
@@ -89,6 +94,60 @@ shown_is work h t (Proved line (Waterfall path)) spends told first = (told, firs
 shown_is work h t (Failed path cause) spends told first = first
 shown_is work h t OutOfSteps spends told first = (first, spends told)
 shown_is work h t (NotYet path) spends told first = first
+
+-- ---- work in the place of work
+
+pub stands_for_itself : (history : List Entry) (work : Work) (found : Found) → StandsFor history work found (record { work = work; found = found })
+stands_for_itself history work found = record { grows = λ begun none unknown grows. grows; shown = λ h t shown. shown }
+
+take_none : (known : List Prescription) → take 0 known ≡ []
+take_none [] = refl
+take_none (p ∷ known) = refl
+
+none_known : (begun new : List Prescription) → begun ≡ [] → take (length begun) new ≡ begun
+none_known begun new unknown = subst (λ (known : List Prescription). take (length known) new ≡ known) (sym unknown) (take_none new)
+
+-- with fewer lines it grew too
+grew_shorter : (history : List Entry) (old : Work) (line : ℕ) (new : Shortened) → IsShortened history old line new → (begun : Work) → begun.log ≡ [] → begun.known.items ≡ [] → WorkGrows history begun old → WorkGrows history begun new.work
+grew_shorter history old line new is begun none unknown grows =
+    let across : WorkGrows history begun (record { bank = new.work.bank; log = old.log; counter = old.counter; known = old.known }) =
+    WorkGrows-trans history begun old (record { bank = new.work.bank; log = old.log; counter = old.counter; known = old.known }) grows
+    (bank_grows history old new.work.bank old.counter grows.stands is.bank is.names (uncounted old.counter)) in
+    record {
+      bank = across.bank;
+      names = across.names;
+      log = subst (λ (log : List Line). LogGrows new.work.bank history log new.work.log) (sym none) is.log;
+      rules = subst (λ (log : List Line). RulesAreOver IsVariable new.work.bank history (length log) new.work.log) (sym none) is.rules;
+      counter = subst (CountsUp begun.counter) (sym is.counter) grows.counter;
+      known = none_known begun.known.items new.work.known.items unknown;
+      stands = is.stands;
+    }
+
+only_shorter : (history : List Entry) (old : Work) (line : ℕ) (new : Shortened) → IsShortened history old line new → (t : Term) (n : ℕ) → n ≡ line → has_only (clause_at old.bank old.log n) (t ∷ []) ≡ true → has_only (clause_at new.work.bank new.work.log new.line) (t ∷ []) ≡ true
+only_shorter history old line new is t n same only =
+    ap (λ (c : Option (List Term)). has_only c (t ∷ [])) (is.clause ∙ ap (clause_at old.bank old.log) (sym same)) ∙ only
+
+-- and its line shows the same
+shown_shorter : (history : List Entry) (old : Work) (line : ℕ) (new : Shortened) (found : Found) → IsShortened history old line new → line_in found ≡ Some line → (h : History) (t : Term) → IsShownBy old h t found → IsShownBy new.work h t (with_line found new.line)
+shown_shorter history old line new (Fragment n way) is at h t shown = (only_shorter history old line new is t n (cc) shown.0, shown.1)
+shown_shorter history old line new (Moves n) is at h t shown = (only_shorter history old line new is t n (cc) shown.0, shown.1)
+shown_shorter history old line new finding.OutOfSteps is at h t shown = absurd cc
+shown_shorter history old line new finding.Unknown is at h t shown = absurd cc
+
+pub stands_shorter : (history : List Entry) (old : Work) (line : ℕ) (new : Shortened) (found renamed : Found) → IsShortened history old line new → line_in found ≡ Some line → renamed ≡ with_line found new.line → StandsFor history old found (record { work = new.work; found = renamed })
+stands_shorter history old line new found renamed is at same = record {
+  grows = grew_shorter history old line new is;
+  shown = λ h t before. subst (IsShownBy new.work h t) (sym same) (shown_shorter history old line new found is at h t before);
+}
+
+-- its lines are legal from the first on, and their rules over the history
+pub legal_begun : (history : List Entry) (begun work : Work) → begun.log ≡ [] → WorkGrows history begun work → LogGrows work.bank history [] work.log
+legal_begun history begun work none grows = subst (λ (log : List Line). LogGrows work.bank history log work.log) none grows.log
+
+pub over_begun : (history : List Entry) (begun work : Work) → begun.log ≡ [] → WorkGrows history begun work → RulesAreOver IsVariable work.bank history 0 work.log
+over_begun history begun work none grows = subst (λ (log : List Line). RulesAreOver IsVariable work.bank history (length log) work.log) none grows.rules
+
+-- ---- what is found is so
 
 -- what a line shows is derivable
 shown_derivable : (work : Work) (history : List Entry) (t : Term) (line : ℕ) → WorkHolds history work → IsTerm (symbols_of (events_at work.bank history)) t
@@ -147,15 +206,21 @@ module _ (bank begun later : Content) (history : List Entry) (name : Sym) (goal 
   pub free_kept : IsFree (events_at bank history) (text_at bank name) → IsFree (events_at later history) (text_at later name)
   free_kept free = subst (λ (h : History). IsFree h (text_at later name)) (sym events_kept) (subst (IsFree (events_at bank history)) (sym name_kept) free)
 
-  -- what the verdict says of the bank as it was when the work began
-  pub shown_kept : (work : Work) (verdict : Verdict) (result : Found) → result ≡ found_of verdict → SpendsAll work (events_at begun history) → IsTold work (term_at begun goal) verdict
-      → IsFirstPass (events_at begun history) (term_at begun goal) verdict → IsShownBy work (events_at later history) (term_at later goal) result
-  shown_kept work verdict result is spends told first =
+  pub name_named : IsNamed later name
+  name_named = IsNamed-grown bank later name grew named
+
+  pub goal_stands : Stands later goal
+  goal_stands = Stands-grown bank later goal grew there
+
+  -- what the verdict says of the bank as it was when the work began, shown by work that stands in the place of that work
+  pub shown_kept : (work : Work) (verdict : Verdict) (found : Found) (shown : Shown) → found ≡ found_of verdict → StandsFor history work found shown → SpendsAll work (events_at begun history) → IsTold work (term_at begun goal) verdict
+      → IsFirstPass (events_at begun history) (term_at begun goal) verdict → IsShownBy shown.work (events_at later history) (term_at later goal) shown.found
+  shown_kept work verdict found shown is other spends told first =
       let own : IsShownBy work (events_at begun history) (term_at begun goal) (found_of verdict) = shown_is work (events_at begun history) (term_at begun goal) verdict spends told first in
+      let here : IsShownBy shown.work (events_at begun history) (term_at begun goal) shown.found = other.shown (events_at begun history) (term_at begun goal) (subst (IsShownBy work (events_at begun history) (term_at begun goal)) (sym is) own) in
       let events : events_at begun history ≡ events_at later history = ap (λ (b : Content). events_at b history) same ∙ sym events_kept in
-      subst (IsShownBy work (events_at later history) (term_at later goal)) (sym is)
-      (subst (λ (h : History). IsShownBy work h (term_at later goal) (found_of verdict)) events
-      (subst (λ (t : Term). IsShownBy work (events_at begun history) t (found_of verdict)) (sym goal_begun) own))
+      subst (λ (h : History). IsShownBy shown.work h (term_at later goal) shown.found) events
+      (subst (λ (t : Term). IsShownBy shown.work (events_at begun history) t shown.found) (sym goal_begun) here)
 
   pub found_before : (limit : ℕ) (result : Found) → IsFoundBy limit (events_at later history) (term_at later goal) result → IsFoundBy limit (events_at bank history) (term_at bank goal) result
   found_before limit result is =

@@ -18,6 +18,7 @@ use Rattle.nq_kernel.specs.declared.verdict.Proof.TheVariants.{First, Waterfall}
 use Rattle.nq_kernel.specs.declared.verdict.Verdict.{Verdict}
 use Rattle.nq_kernel.specs.declared.verdict.Verdict.TheVariants.{Proved, Failed, OutOfSteps, NotYet}
 use Rattle.nq_kernel.specs.declared.work.Work.{Work}
+use Rattle.nq_kernel.specs.Growing.{WorkGrows}
 use Rattle.nq_kernel.specs.Meaning.{clause_at}
 use Rattle.nq_kernel.specs.Proving.{IsFirstFragment}
 use Rattle.nq_fragments.specs.Fragments.{IsInNoFragment}
@@ -31,6 +32,7 @@ use Rattle.nq_run.specs.declared.session.Taken.{Taken}
 use Rattle.nq_run.specs.declared.proving.Found.{Found}
 use Rattle.nq_run.specs.declared.proving.Found.TheVariants as finding
 use Rattle.nq_run.specs.declared.proving.Found.TheVariants.{Fragment, Moves}
+use Rattle.nq_run.specs.declared.proving.Shown.{Shown}
 use Rattle.nq_run.specs.declared.proving.Tried.{Tried}
 use Rattle.nq_answers.specs.Claims.{claims_at, claims_of}
 use Rattle.nq_run.specs.Banks.{KeepsBank, LeavesBy}
@@ -68,6 +70,18 @@ IsFoundBy limit h t (Fragment line way) = IsFirstFragment h t way × Derivable h
 IsFoundBy limit h t (Moves line) = IsInNoFragment h t × Derivable h (holds t)
 IsFoundBy limit h t finding.OutOfSteps = IsInNoFragment h t × IsUsedUp limit h
 IsFoundBy limit h t finding.Unknown = IsInNoFragment h t
+
+-- what is found of a lemma, where line n shows it
+abbrev pub with_line : Found → ℕ → Found
+with_line (Fragment line way) n = Fragment n way
+with_line (Moves line) n = Moves n
+with_line finding.OutOfSteps n = finding.OutOfSteps
+with_line finding.Unknown n = finding.Unknown
+
+-- Work that stands in the place of work: it too grew from work with no line, and shows of a lemma what the other shows.
+pub record StandsFor (history : List Entry) (work : Work) (found : Found) (new : Shown) : Type 0 where
+  pub grows : (begun : Work) → begun.log ≡ [] → begun.known.items ≡ [] → WorkGrows history begun work → WorkGrows history begun new.work
+  pub shown : (h : History) (t : Term) → IsShownBy work h t found → IsShownBy new.work h t new.found
 
 -- the fragment that proved a lemma
 abbrev pub way_in : Found → Option Quick

@@ -1,10 +1,10 @@
 // The try of a lemma, and the block of what an event claims.
-ghost use Rattle.std.specs.Prelude.{◌≡◌, IfOk, [], true};
+ghost use Rattle.std.specs.Prelude.{◌≡◌, IfOk, [], true, Some};
 ghost use Rattle.nq_bank.specs.Content.{IsNamed, Stands, term_at, text_at};
 ghost use Rattle.nq_bank.specs.Marks.{CanRelease, released};
 ghost use Rattle.nq_history.specs.Events.{events_at, HistoryStands};
 ghost use Rattle.nq_history.specs.Hints.{HintsStand};
-ghost use Rattle.nq_kernel.specs.Growing.{LogGrows};
+ghost use Rattle.nq_kernel.specs.Growing.{LogGrows, WorkStands};
 ghost use Rattle.nq_kernel.specs.Hints.{HintsAreIn};
 ghost use Rattle.nq_kernel.specs.Over.{IsVariable, RulesAreOver};
 ghost use Rattle.nq_kernel.specs.Ready.{IsReady, WorkHolds};
@@ -15,7 +15,7 @@ ghost use Rattle.nq_block.specs.declared.closing.Closing.TheVariants as closing;
 ghost use Rattle.nq_block.specs.Closings.{CanClose, ClosingStands, IsFree, claim_at};
 ghost use Rattle.nq_block.specs.Names.{HasSymbols};
 ghost use Rattle.nq_run.specs.Outcome.{AreBlocks};
-ghost use Rattle.nq_run.specs.Sessions.{IsFoundBy, IsShownBy, Tries, found_claims, found_of, line_in, way_in};
+ghost use Rattle.nq_run.specs.Sessions.{IsFoundBy, IsShownBy, StandsFor, Tries, found_claims, found_of, line_in, way_in, with_line};
 ghost use Rattle.nq_spelling.specs.SpelledEvents.{IsSpelledFormula};
 
 use nq_bank::{Bank, Mark, Sym, TermId};
@@ -23,6 +23,7 @@ use nq_block::{Closing, write_block};
 use nq_history::{Hints, History};
 use nq_kernel::{Log, Proof, Prover, Quick, Verdict, Work, held_work};
 use nq_logtext::Text;
+use nq_needed::with_needed_lines;
 use std::alloc::{AllocError, Global};
 
 /// A lemma that is to be tried: its name, its term, and its hints.
@@ -44,6 +45,13 @@ pub(crate) enum Found {
     OutOfSteps,
     /// Nothing that is told yet.
     Unknown,
+}
+
+/// Work, and what it shows of a lemma.
+#[derive(Drop)]
+pub(crate) struct Shown {
+    pub(crate) work: Work,
+    pub(crate) found: Found,
 }
 
 /// The try of a lemma: the bank as it was before, what was found of the lemma, and the block of what it claims.
@@ -101,6 +109,18 @@ fn line_in(found: Found) -> Option<u64>
     }
 }
 
+/// What was found of a lemma, where the line that shows it has this number.
+fn with_line(found: Found, line: u64) -> Found
+    ensures { result ≡ with_line found line }
+{
+    match found {
+        Found::Fragment(_, way) => Found::Fragment(line, way),
+        Found::Moves(_) => Found::Moves(line),
+        Found::OutOfSteps => Found::OutOfSteps,
+        Found::Unknown => Found::Unknown,
+    }
+}
+
 /// Tries to prove a lemma, which so many steps may take, and gives back what its proof made in the bank.
 pub(crate) fn try_lemma<P: Prover>(
     alloc: Global,
@@ -128,8 +148,47 @@ pub(crate) fn try_lemma<P: Prover>(
     let mut work = Work::new(bank, Log::new(alloc), steps);
     let verdict = prover.prove(&mut work, history, lemma.goal, lemma.hints)?;
     held_work();
-    let tried = tried_by(alloc, work, history, lemma, found_by(&verdict), logging)?;
+    let shown = shown_by(work, history, found_by(&verdict), logging)?;
+    let tried = tried_by(alloc, shown.work, history, lemma, shown.found, logging)?;
     Ok(given_back(tried, mark))
+}
+
+/// The work that shows what was found of a lemma. Where a log is written it has only the lines on which the line rests that
+/// shows the lemma.
+fn shown_by(work: Work, history: &History, found: Found, logging: bool) -> Result<Shown, AllocError>
+    requires stands { WorkStands history.now work }
+    requires legal { LogGrows work.bank history.now [] work.log }
+    requires over { RulesAreOver IsVariable work.bank history.now 0 work.log }
+    ensures { IfOk result (StandsFor history.now work found) }
+{
+    if !logging {
+        return Ok(Shown { work, found });
+    }
+    match line_in(found) {
+        Some(line) => in_fewer_lines(work, history, found, line),
+        None => Ok(Shown { work, found }),
+    }
+}
+
+/// The work with only the lines on which the line rests that shows the lemma.
+fn in_fewer_lines(
+    work: Work,
+    history: &History,
+    found: Found,
+    line: u64,
+) -> Result<Shown, AllocError>
+    requires stands { WorkStands history.now work }
+    requires legal { LogGrows work.bank history.now [] work.log }
+    requires over { RulesAreOver IsVariable work.bank history.now 0 work.log }
+    requires line { line_in found ≡ Some line }
+    ensures { IfOk result (StandsFor history.now work found) }
+{
+    let left = with_needed_lines(work, history, line)?;
+    let found = with_line(found, left.line);
+    Ok(Shown {
+        work: left.work,
+        found,
+    })
 }
 
 /// The try that made this work: the block of the lemma, where a line shows it.

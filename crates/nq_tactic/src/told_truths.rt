@@ -1,22 +1,20 @@
 //! Goals that say of a truth value that it is T where it is true, as `(NOT (MEMBER E X))`, `(EQUAL (MEMBER E X) T)`.
 ghost use Rattle.std.specs.Prelude.{◌≡◌, ◌<◌, IfOk, IfSome, Err, length};
-ghost use Rattle.nq_bank.specs.Content.{IsNamed, Stands, terms_at};
+ghost use Rattle.nq_bank.specs.Content.{Stands, terms_at};
 ghost use Rattle.nq_history.specs.Events.{events_at};
 ghost use Rattle.nq_kernel.specs.Growing.{LineStands, WorkGrows, WorkStands};
-ghost use Rattle.nq_lines.specs.Facts.{IsEquation, IsFact};
-ghost use Rattle.nq_lines.specs.Instances.{ArePairsIn};
+ghost use Rattle.nq_lines.specs.Facts.{IsEquation};
 ghost use Rattle.nq_lines.specs.Lines.{IsTermIn, LineHasOnly};
 ghost use Rattle.nq_lines.specs.OwnTerms.{HasOwnTerms};
 ghost use Rattle.nq_search.specs.Goals.{IsGoalIn};
 
 use crate::circular::kept;
 use crate::reading::is_call_of;
-use nq_bank::{Bank, Sym, TermId, ground};
-use nq_clause::Pair;
+use nq_bank::{Bank, TermId, ground};
 use nq_history::History;
 use nq_kernel::{Stop, Work};
-use nq_lines::{Fact, Sides, match_pairs, meet, row_fact, sides_of, symmetric, truth};
-use nq_rewrite::{kind_line, named_function};
+use nq_lines::{Sides, meet, sides_of, symmetric, truth};
+use nq_rewrite::known_at;
 
 /// Is a literal the denial of a term?
 fn denies(bank: &Bank, literal: TermId, t: TermId) -> bool
@@ -39,129 +37,6 @@ fn is_denied(work: &Work, history: &History, goal: &[TermId], t: TermId) -> bool
         }
     }
     false
-}
-
-/// Adds an instance of a line.
-fn add_instance(
-    work: &mut Work,
-    history: &History,
-    line: u64,
-    pairs: Vec<Pair>,
-) -> Result<u64, Stop>
-    requires stands { WorkStands history.now work.old }
-    requires line { LineStands work.old line }
-    requires pairs { ArePairsIn history.now work.old pairs.items }
-    ensures line { IfOk result (LineStands work.new) }
-    ensures grows { WorkGrows history.now work.old work.new }
-    ensures out { result ≡ Err Stop.OutOfSteps → work.new.counter.used ≡ work.new.counter.limit }
-{
-    work.find_instance(history, line, pairs)
-}
-
-/// The instance of a line that takes a pattern to a call, if there is one.
-fn instance_at(
-    work: &mut Work,
-    history: &History,
-    line: u64,
-    pattern: TermId,
-    t: TermId,
-) -> Result<Option<u64>, Stop>
-    requires stands { WorkStands history.now work.old }
-    requires line { LineStands work.old line }
-    requires pattern { IsTermIn history.now work.old pattern }
-    requires term { IsTermIn history.now work.old t }
-    ensures line { IfOk result (λ found. IfSome found (LineStands work.new)) }
-    ensures grows { WorkGrows history.now work.old work.new }
-    ensures out { result ≡ Err Stop.OutOfSteps → work.new.counter.used ≡ work.new.counter.limit }
-{
-    match match_pairs(work, history, pattern, t)? {
-        Some(pairs) => {
-            let made = add_instance(work, history, line, pairs)?;
-            Ok(Some(made))
-        }
-        None => Ok(None),
-    }
-}
-
-/// The same, by the definition of the function.
-fn instance_by_definition(
-    work: &mut Work,
-    history: &History,
-    line: u64,
-    definition: Fact,
-    t: TermId,
-) -> Result<Option<u64>, Stop>
-    requires stands { WorkStands history.now work.old }
-    requires line { LineStands work.old line }
-    requires definition { IsFact history.now work.old definition }
-    requires term { IsTermIn history.now work.old t }
-    ensures line { IfOk result (λ found. IfSome found (LineStands work.new)) }
-    ensures grows { WorkGrows history.now work.old work.new }
-    ensures out { result ≡ Err Stop.OutOfSteps → work.new.counter.used ≡ work.new.counter.limit }
-{
-    match sides_of(work, history, definition.term) {
-        Some(sides) => instance_at(work, history, line, sides.left, t),
-        None => Ok(None),
-    }
-}
-
-/// The same, by the line that is known of the function.
-fn instance_by_known(
-    work: &mut Work,
-    history: &History,
-    f: Sym,
-    line: u64,
-    t: TermId,
-) -> Result<Option<u64>, Stop>
-    requires stands { WorkStands history.now work.old }
-    requires ready { HasOwnTerms (events_at work.old.bank history.now) }
-    requires function { IsNamed work.old.bank f }
-    requires line { LineStands work.old line }
-    requires term { IsTermIn history.now work.old t }
-    ensures line { IfOk result (λ found. IfSome found (LineStands work.new)) }
-    ensures grows { WorkGrows history.now work.old work.new }
-    ensures out { result ≡ Err Stop.OutOfSteps → work.new.counter.used ≡ work.new.counter.limit }
-{
-    match row_fact(work, history, f)? {
-        Some(definition) => instance_by_definition(work, history, line, definition, t),
-        None => Ok(None),
-    }
-}
-
-/// The same, by the function of the call.
-fn instance_by_function(
-    work: &mut Work,
-    history: &History,
-    f: Sym,
-    t: TermId,
-) -> Result<Option<u64>, Stop>
-    requires stands { WorkStands history.now work.old }
-    requires ready { HasOwnTerms (events_at work.old.bank history.now) }
-    requires function { IsNamed work.old.bank f }
-    requires term { IsTermIn history.now work.old t }
-    ensures line { IfOk result (λ found. IfSome found (LineStands work.new)) }
-    ensures grows { WorkGrows history.now work.old work.new }
-    ensures out { result ≡ Err Stop.OutOfSteps → work.new.counter.used ≡ work.new.counter.limit }
-{
-    match kind_line(work, history, f) {
-        Some(line) => instance_by_known(work, history, f, line, t),
-        None => Ok(None),
-    }
-}
-
-/// The line that is known of the function of a call, at this call.
-fn known_at(work: &mut Work, history: &History, t: TermId) -> Result<Option<u64>, Stop>
-    requires stands { WorkStands history.now work.old }
-    requires ready { HasOwnTerms (events_at work.old.bank history.now) }
-    requires term { IsTermIn history.now work.old t }
-    ensures line { IfOk result (λ found. IfSome found (LineStands work.new)) }
-    ensures grows { WorkGrows history.now work.old work.new }
-    ensures out { result ≡ Err Stop.OutOfSteps → work.new.counter.used ≡ work.new.counter.limit }
-{
-    match named_function(&work.bank, t) {
-        Some(f) => instance_by_function(work, history, f, t),
-        None => Ok(None),
-    }
 }
 
 /// The line of a goal that denies a term, and says of it that it is T.

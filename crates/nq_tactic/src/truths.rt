@@ -6,7 +6,7 @@ use crate::guessing::{BODY_LIMIT, add_name, body_of, has_name, recognized_place}
 use nq_bank::{Bank, Node, Sym, TermId, ground};
 use nq_history::History;
 use nq_kernel::Work;
-use nq_rewrite::{kind_line, known_recognizer};
+use nq_rewrite::is_known_truth;
 use std::alloc::AllocError;
 
 /// The functions of the ground history whose values are T or F.
@@ -30,13 +30,6 @@ const TRUTH_FUNCTIONS: [Sym; 14] = [
 /// Is each value of a function T or F by what it is?
 fn is_truth_function(history: &History, f: Sym) -> bool {
     has_name(&TRUTH_FUNCTIONS, f) || recognized_place(history, f).is_some()
-}
-
-/// Is it known of a function that its calls are T where they are true?
-fn is_known_truth(work: &Work, history: &History, f: Sym) -> bool
-    requires { WorkStands history.now work.now }
-{
-    kind_line(work, history, f).is_some() && known_recognizer(work, history, f).is_none()
 }
 
 /// May the leaves of a term within the body of a function be T or F?

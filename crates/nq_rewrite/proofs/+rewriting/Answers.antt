@@ -1251,8 +1251,8 @@ outside::rewrite_call-returns-in-Some-clause-grows t c =
     let g2 : WorkGrows h one two = c.rewrite_on.ensures.grows in
     (WorkGrows-trans h old one two g1 g2)
 
-pub outside::rewrite_call-rewrite_further-requires : goal.outside::rewrite_call-rewrite_further-requires
-outside::rewrite_call-rewrite_further-requires t c =
+pub outside::rewrite_call-rewrite_remade-requires : goal.outside::rewrite_call-rewrite_remade-requires
+outside::rewrite_call-rewrite_remade-requires t c =
     let h : List Entry = c.args.history.now in
     let hyps : List TermId = c.args.assumed.now in
     let old : Work = c.args.work.now in
@@ -1268,9 +1268,9 @@ outside::rewrite_call-returns-in-None-clause-ok t c =
     let old : Work = c.args.work.now in
     let one : Work = c.reduce_numbered.new.work in
     let g1 : WorkGrows h old one = c.reduce_numbered.ensures.grows in
-    let two : Work = c.rewrite_further.new.work in
-    let g2 : WorkGrows h one two = c.rewrite_further.ensures.grows in
-    told_before h hyps old one two c.args.t c.rewrite_further.result g1 c.requires.can c.rewrite_further.ensures.ok
+    let two : Work = c.rewrite_remade.new.work in
+    let g2 : WorkGrows h one two = c.rewrite_remade.ensures.grows in
+    told_before h hyps old one two c.args.t c.rewrite_remade.result g1 c.requires.can c.rewrite_remade.ensures.ok
 
 pub outside::rewrite_call-returns-in-None-clause-grows : goal.outside::rewrite_call-returns-in-None-clause-grows
 outside::rewrite_call-returns-in-None-clause-grows t c =
@@ -1279,8 +1279,8 @@ outside::rewrite_call-returns-in-None-clause-grows t c =
     let old : Work = c.args.work.now in
     let one : Work = c.reduce_numbered.new.work in
     let g1 : WorkGrows h old one = c.reduce_numbered.ensures.grows in
-    let two : Work = c.rewrite_further.new.work in
-    let g2 : WorkGrows h one two = c.rewrite_further.ensures.grows in
+    let two : Work = c.rewrite_remade.new.work in
+    let g2 : WorkGrows h one two = c.rewrite_remade.ensures.grows in
     (WorkGrows-trans h old one two g1 g2)
 
 pub outside::rewrite_on-rewrite_term-requires : goal.outside::rewrite_on-rewrite_term-requires
@@ -2317,3 +2317,170 @@ selecting::rewrite_asked_body-returns-in_err-leave_question-clause-grows t c =
 pub selecting::rewrite_asked_body-returns-then-not-tells-clause-grows : goal.selecting::rewrite_asked_body-returns-then-not-tells-clause-grows
 selecting::rewrite_asked_body-returns-then-not-tells-clause-grows t c =
     WorkGrows-refl c.args.history.now c.args.work.now c.requires.can.stands
+
+pub remaking::rewrite_remade_number-rewrite_where-requires : goal.remaking::rewrite_remade_number-rewrite_where-requires
+remaking::rewrite_remade_number-rewrite_where-requires t c =
+    let h : List Entry = c.args.history.now in
+    let hyps : List TermId = c.args.assumed.now in
+    let old : Work = c.args.work.now in
+    let one : Work = c.above_zero.new.work in
+    let g1 : WorkGrows h old one = c.above_zero.ensures.grows in
+    let fewer : one.counter.limit - one.counter.used ≤ old.counter.limit - old.counter.used = fewer_left h old one g1 in
+    (omega (arith, fewer), (c.requires.depth, ((can_grown h old one g1 hyps c.args.t c.requires.can), c.in_ok-test.ensures.test)))
+
+pub remaking::rewrite_remade_number-returns-clause-ok : goal.remaking::rewrite_remade_number-returns-clause-ok
+remaking::rewrite_remade_number-returns-clause-ok t c =
+    let h : List Entry = c.args.history.now in
+    let hyps : List TermId = c.args.assumed.now in
+    let old : Work = c.args.work.now in
+    let one : Work = c.above_zero.new.work in
+    let g1 : WorkGrows h old one = c.above_zero.ensures.grows in
+    let two : Work = c.rewrite_where.new.work in
+    let g2 : WorkGrows h one two = c.rewrite_where.ensures.grows in
+    told_before h hyps old one two c.args.t c.rewrite_where.result g1 c.requires.can c.rewrite_where.ensures.ok
+
+pub remaking::rewrite_remade_number-returns-clause-grows : goal.remaking::rewrite_remade_number-returns-clause-grows
+remaking::rewrite_remade_number-returns-clause-grows t c =
+    let h : List Entry = c.args.history.now in
+    let hyps : List TermId = c.args.assumed.now in
+    let old : Work = c.args.work.now in
+    let one : Work = c.above_zero.new.work in
+    let g1 : WorkGrows h old one = c.above_zero.ensures.grows in
+    let two : Work = c.rewrite_where.new.work in
+    let g2 : WorkGrows h one two = c.rewrite_where.ensures.grows in
+    (WorkGrows-trans h old one two g1 g2)
+
+pub remaking::rewrite_where-relieve-requires : goal.remaking::rewrite_where-relieve-requires
+remaking::rewrite_where-relieve-requires t c =
+    let h : List Entry = c.args.history.now in
+    let hyps : List TermId = c.args.assumed.now in
+    let old : Work = c.args.work.now in
+    (omega arith, (c.requires.depth, can_term h old hyps c.args.t c.args.test c.requires.can c.requires.test))
+
+pub remaking::rewrite_where-rewrite_shown-requires : goal.remaking::rewrite_where-rewrite_shown-requires
+remaking::rewrite_where-rewrite_shown-requires t c =
+    let h : List Entry = c.args.history.now in
+    let hyps : List TermId = c.args.assumed.now in
+    let old : Work = c.args.work.now in
+    let one : Work = c.relieve.new.work in
+    let g1 : WorkGrows h old one = c.relieve.ensures.grows in
+    let fewer : one.counter.limit - one.counter.used ≤ old.counter.limit - old.counter.used = fewer_left h old one g1 in
+    (omega (arith, fewer), (c.requires.depth, ((can_grown h old one g1 hyps c.args.t c.requires.can), held_now h old one g1 hyps c.args.t c.requires.can c.in-Some.shown (subst (λ o. IfSome o (IsHeld h one (terms_at old.bank hyps))) c.in-Some.is c.in_ok-shown.ensures.held))))
+
+pub remaking::rewrite_where-returns-in-Some-clause-ok : goal.remaking::rewrite_where-returns-in-Some-clause-ok
+remaking::rewrite_where-returns-in-Some-clause-ok t c =
+    let h : List Entry = c.args.history.now in
+    let hyps : List TermId = c.args.assumed.now in
+    let old : Work = c.args.work.now in
+    let one : Work = c.relieve.new.work in
+    let g1 : WorkGrows h old one = c.relieve.ensures.grows in
+    let two : Work = c.rewrite_shown.new.work in
+    let g2 : WorkGrows h one two = c.rewrite_shown.ensures.grows in
+    told_before h hyps old one two c.args.t c.rewrite_shown.result g1 c.requires.can c.rewrite_shown.ensures.ok
+
+pub remaking::rewrite_where-returns-in-Some-clause-grows : goal.remaking::rewrite_where-returns-in-Some-clause-grows
+remaking::rewrite_where-returns-in-Some-clause-grows t c =
+    let h : List Entry = c.args.history.now in
+    let hyps : List TermId = c.args.assumed.now in
+    let old : Work = c.args.work.now in
+    let one : Work = c.relieve.new.work in
+    let g1 : WorkGrows h old one = c.relieve.ensures.grows in
+    let two : Work = c.rewrite_shown.new.work in
+    let g2 : WorkGrows h one two = c.rewrite_shown.ensures.grows in
+    (WorkGrows-trans h old one two g1 g2)
+
+pub remaking::rewrite_where-rewrite_further-requires : goal.remaking::rewrite_where-rewrite_further-requires
+remaking::rewrite_where-rewrite_further-requires t c =
+    let h : List Entry = c.args.history.now in
+    let hyps : List TermId = c.args.assumed.now in
+    let old : Work = c.args.work.now in
+    let one : Work = c.relieve.new.work in
+    let g1 : WorkGrows h old one = c.relieve.ensures.grows in
+    let fewer : one.counter.limit - one.counter.used ≤ old.counter.limit - old.counter.used = fewer_left h old one g1 in
+    (omega (arith, fewer), (c.requires.depth, (can_grown h old one g1 hyps c.args.t c.requires.can)))
+
+pub remaking::rewrite_where-returns-in-None-clause-ok : goal.remaking::rewrite_where-returns-in-None-clause-ok
+remaking::rewrite_where-returns-in-None-clause-ok t c =
+    let h : List Entry = c.args.history.now in
+    let hyps : List TermId = c.args.assumed.now in
+    let old : Work = c.args.work.now in
+    let one : Work = c.relieve.new.work in
+    let g1 : WorkGrows h old one = c.relieve.ensures.grows in
+    let two : Work = c.rewrite_further.new.work in
+    let g2 : WorkGrows h one two = c.rewrite_further.ensures.grows in
+    told_before h hyps old one two c.args.t c.rewrite_further.result g1 c.requires.can c.rewrite_further.ensures.ok
+
+pub remaking::rewrite_where-returns-in-None-clause-grows : goal.remaking::rewrite_where-returns-in-None-clause-grows
+remaking::rewrite_where-returns-in-None-clause-grows t c =
+    let h : List Entry = c.args.history.now in
+    let hyps : List TermId = c.args.assumed.now in
+    let old : Work = c.args.work.now in
+    let one : Work = c.relieve.new.work in
+    let g1 : WorkGrows h old one = c.relieve.ensures.grows in
+    let two : Work = c.rewrite_further.new.work in
+    let g2 : WorkGrows h one two = c.rewrite_further.ensures.grows in
+    (WorkGrows-trans h old one two g1 g2)
+
+pub remaking::rewrite_shown-rewrite_on-requires : goal.remaking::rewrite_shown-rewrite_on-requires
+remaking::rewrite_shown-rewrite_on-requires t c =
+    let h : List Entry = c.args.history.now in
+    let hyps : List TermId = c.args.assumed.now in
+    let old : Work = c.args.work.now in
+    let one : Work = c.reduce_under.new.work in
+    let g1 : WorkGrows h old one = c.reduce_under.ensures.grows in
+    let fewer : one.counter.limit - one.counter.used ≤ old.counter.limit - old.counter.used = fewer_left h old one g1 in
+    (omega (arith, fewer), (c.requires.depth, ((can_grown h old one g1 hyps c.args.t c.requires.can), rewritten_now h hyps old one c.args.t c.in_ok-step.step g1 c.requires.can c.in_ok-step.ensures.ok)))
+
+pub remaking::rewrite_shown-returns-in-Some-clause-ok : goal.remaking::rewrite_shown-returns-in-Some-clause-ok
+remaking::rewrite_shown-returns-in-Some-clause-ok t c =
+    let h : List Entry = c.args.history.now in
+    let hyps : List TermId = c.args.assumed.now in
+    let old : Work = c.args.work.now in
+    let one : Work = c.reduce_under.new.work in
+    let g1 : WorkGrows h old one = c.reduce_under.ensures.grows in
+    let two : Work = c.rewrite_on.new.work in
+    let g2 : WorkGrows h one two = c.rewrite_on.ensures.grows in
+    told_before h hyps old one two c.args.t c.rewrite_on.result g1 c.requires.can c.rewrite_on.ensures.ok
+
+pub remaking::rewrite_shown-returns-in-Some-clause-grows : goal.remaking::rewrite_shown-returns-in-Some-clause-grows
+remaking::rewrite_shown-returns-in-Some-clause-grows t c =
+    let h : List Entry = c.args.history.now in
+    let hyps : List TermId = c.args.assumed.now in
+    let old : Work = c.args.work.now in
+    let one : Work = c.reduce_under.new.work in
+    let g1 : WorkGrows h old one = c.reduce_under.ensures.grows in
+    let two : Work = c.rewrite_on.new.work in
+    let g2 : WorkGrows h one two = c.rewrite_on.ensures.grows in
+    (WorkGrows-trans h old one two g1 g2)
+
+pub remaking::rewrite_shown-rewrite_further-requires : goal.remaking::rewrite_shown-rewrite_further-requires
+remaking::rewrite_shown-rewrite_further-requires t c =
+    let h : List Entry = c.args.history.now in
+    let hyps : List TermId = c.args.assumed.now in
+    let old : Work = c.args.work.now in
+    let one : Work = c.reduce_under.new.work in
+    let g1 : WorkGrows h old one = c.reduce_under.ensures.grows in
+    let fewer : one.counter.limit - one.counter.used ≤ old.counter.limit - old.counter.used = fewer_left h old one g1 in
+    (omega (arith, fewer), (c.requires.depth, (can_grown h old one g1 hyps c.args.t c.requires.can)))
+
+pub remaking::rewrite_shown-returns-in-None-clause-ok : goal.remaking::rewrite_shown-returns-in-None-clause-ok
+remaking::rewrite_shown-returns-in-None-clause-ok t c =
+    let h : List Entry = c.args.history.now in
+    let hyps : List TermId = c.args.assumed.now in
+    let old : Work = c.args.work.now in
+    let one : Work = c.reduce_under.new.work in
+    let g1 : WorkGrows h old one = c.reduce_under.ensures.grows in
+    let two : Work = c.rewrite_further.new.work in
+    let g2 : WorkGrows h one two = c.rewrite_further.ensures.grows in
+    told_before h hyps old one two c.args.t c.rewrite_further.result g1 c.requires.can c.rewrite_further.ensures.ok
+
+pub remaking::rewrite_shown-returns-in-None-clause-grows : goal.remaking::rewrite_shown-returns-in-None-clause-grows
+remaking::rewrite_shown-returns-in-None-clause-grows t c =
+    let h : List Entry = c.args.history.now in
+    let hyps : List TermId = c.args.assumed.now in
+    let old : Work = c.args.work.now in
+    let one : Work = c.reduce_under.new.work in
+    let g1 : WorkGrows h old one = c.reduce_under.ensures.grows in
+    let two : Work = c.rewrite_further.new.work in
+    let g2 : WorkGrows h one two = c.rewrite_further.ensures.grows in
+    (WorkGrows-trans h old one two g1 g2)

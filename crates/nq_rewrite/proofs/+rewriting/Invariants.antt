@@ -69,7 +69,7 @@ abbrev pub decreases-outside::rewrite_outside : goal.decreases-outside::rewrite_
 decreases-outside::rewrite_outside l = 64 * (l.work.now.counter.limit - l.work.now.counter.used) + 29
 
 abbrev pub decreases-outside::rewrite_call : goal.decreases-outside::rewrite_call
-decreases-outside::rewrite_call l = 64 * (l.work.now.counter.limit - l.work.now.counter.used) + 22
+decreases-outside::rewrite_call l = 64 * (l.work.now.counter.limit - l.work.now.counter.used) + 26
 
 abbrev pub decreases-outside::rewrite_on : goal.decreases-outside::rewrite_on
 decreases-outside::rewrite_on l = 64 * (l.work.now.counter.limit - l.work.now.counter.used) + 1
@@ -180,3 +180,15 @@ invariant-reducing::try_rules-loop-place l =
     record {
       grows : WorkGrows l.history l.fn.work l.work;
     }
+
+abbrev pub decreases-remaking::rewrite_remade : goal.decreases-remaking::rewrite_remade
+decreases-remaking::rewrite_remade l = 64 * (l.work.now.counter.limit - l.work.now.counter.used) + 25
+
+abbrev pub decreases-remaking::rewrite_remade_number : goal.decreases-remaking::rewrite_remade_number
+decreases-remaking::rewrite_remade_number l = 64 * (l.work.now.counter.limit - l.work.now.counter.used) + 24
+
+abbrev pub decreases-remaking::rewrite_where : goal.decreases-remaking::rewrite_where
+decreases-remaking::rewrite_where l = 64 * (l.work.now.counter.limit - l.work.now.counter.used) + 23
+
+abbrev pub decreases-remaking::rewrite_shown : goal.decreases-remaking::rewrite_shown
+decreases-remaking::rewrite_shown l = 64 * (l.work.now.counter.limit - l.work.now.counter.used) + 22

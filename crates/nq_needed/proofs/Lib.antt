@@ -1,0 +1,2 @@
+pub mod RenumberingLemmas
+pub mod KeepingLemmas
