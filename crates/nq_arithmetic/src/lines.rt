@@ -101,6 +101,22 @@ pub fn law_at(
     ensures out { result ≡ Err Stop.OutOfSteps → work.new.counter.used ≡ work.new.counter.limit }
 {
     let pairs = pairs_of(work, history, at)?;
+    law_with(work, history, law, pairs)
+}
+
+/// Adds the line of a law, with these terms for its variables.
+pub fn law_with(
+    work: &mut Work,
+    history: &History,
+    law: ArithmeticLaw,
+    pairs: Vec<Pair>,
+) -> Result<u64, Stop>
+    requires stands { WorkStands history.now work.old }
+    requires pairs { ArePairsIn history.now work.old pairs.items }
+    ensures line { IfOk result (λ n. LineStands work.new n) }
+    ensures grows { WorkGrows history.now work.old work.new }
+    ensures out { result ≡ Err Stop.OutOfSteps → work.new.counter.used ≡ work.new.counter.limit }
+{
     let line = law_line(work, history, law)?;
     instance_of(work, history, line, pairs)
 }

@@ -5,11 +5,12 @@ ghost use Rattle.nq_kernel.specs.Growing.{WorkGrows, WorkStands};
 ghost use Rattle.nq_lines.specs.Lines.{IsTermIn};
 ghost use Rattle.nq_arithmetic.specs.Functions.{IsFunctionOf};
 
-use crate::functions::{name_of_one, name_of_two};
+use crate::functions::{One, name_of_one, name_of_two};
 use crate::template::Make;
 use nq_bank::{Sym, TermId, ground, ground_name};
 use nq_history::History;
 use nq_kernel::{Stop, Work};
+use nq_lines::variable;
 
 /// One more term.
 pub fn push_term(terms: &mut Vec<TermId>, t: TermId) -> Result<(), Stop>
@@ -56,6 +57,18 @@ fn call_one(work: &mut Work, history: &History, f: Sym, a: TermId) -> Result<Ter
 {
     let name = ground_name(&work.bank, f);
     work.app(history, name, &[a])
+}
+
+/// Makes `(ADD1 X)`.
+pub fn one_more_than_x(work: &mut Work, history: &History) -> Result<TermId, Stop>
+    requires stands { WorkStands history.now work.old }
+    ensures term { IfOk result (λ t. IsTermIn history.now work.new t) }
+    ensures grows { WorkGrows history.now work.old work.new }
+    ensures out { result ≡ Err Stop.OutOfSteps → work.new.counter.used ≡ work.new.counter.limit }
+{
+    let x = variable(work, history, b"X")?;
+    let name = name_of_one(One::Add1);
+    call_one(work, history, name, x)
 }
 
 /// Makes the call of a function of two arguments.

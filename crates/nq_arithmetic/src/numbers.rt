@@ -5,13 +5,15 @@ ghost use Rattle.nq_kernel.specs.Growing.{LineStands, WorkGrows, WorkStands};
 ghost use Rattle.nq_lines.specs.Lines.{IsTermIn};
 ghost use Rattle.nq_arithmetic.specs.Claims.{AreOperandsIn};
 
-use crate::lines::law_at;
+use crate::lines::{law_at, law_with};
+use crate::making::one_more_than_x;
 use crate::reading::{Operands, operands_of};
 use crate::template::ArithmeticLaw;
 use nq_bank::{Bank, Node, Sym, TermId, ground};
 use nq_division_laws::DivisionLaw;
 use nq_history::History;
 use nq_kernel::{Stop, Work};
+use nq_lines::match_pairs;
 use nq_number_laws::{InductiveLaw, PlainLaw};
 
 /// The functions whose calls are numbers, each with the law that says so.
@@ -55,12 +57,12 @@ fn law_of_calls(f: Sym) -> Option<ArithmeticLaw> {
     None
 }
 
-/// The law that says that a numeral is a number. There is none for the numerals above 0.
-fn law_of_numeral(n: u128) -> Option<ArithmeticLaw> {
+/// The law that says that a numeral is a number. One above 0 is a call of ADD1.
+fn law_of_numeral(n: u128) -> ArithmeticLaw {
     if n == 0 {
-        Some(ArithmeticLaw::Plain(PlainLaw::ZeroIsNumber))
+        ArithmeticLaw::Plain(PlainLaw::ZeroIsNumber)
     } else {
-        None
+        ArithmeticLaw::Plain(PlainLaw::OneMoreIsNumber)
     }
 }
 
@@ -70,7 +72,7 @@ pub fn number_law(bank: &Bank, t: TermId) -> Option<ArithmeticLaw>
 {
     match bank.node(t) {
         Node::App(f, _) => law_of_calls(f),
-        Node::Num(n) => law_of_numeral(n),
+        Node::Num(n) => Some(law_of_numeral(n)),
         Node::Var(_) => None,
     }
 }
@@ -97,6 +99,62 @@ fn operands_or_whole(work: &Work, history: &History, t: TermId) -> Operands
     }
 }
 
+/// Is a term a numeral above 0?
+fn is_above_zero(bank: &Bank, t: TermId) -> bool
+    requires { Stands bank.now t }
+{
+    match bank.node(t) {
+        Node::Num(n) => n > 0,
+        Node::App(_, _) => false,
+        Node::Var(_) => false,
+    }
+}
+
+/// Adds the line of a law that speaks of `(ADD1 X)`, of a numeral above 0.
+fn numeral_line(
+    work: &mut Work,
+    history: &History,
+    law: ArithmeticLaw,
+    t: TermId,
+) -> Result<Option<u64>, Stop>
+    requires stands { WorkStands history.now work.old }
+    requires term { IsTermIn history.now work.old t }
+    ensures line { IfOk result (λ found. IfSome found (λ n. LineStands work.new n)) }
+    ensures grows { WorkGrows history.now work.old work.new }
+    ensures out { result ≡ Err Stop.OutOfSteps → work.new.counter.used ≡ work.new.counter.limit }
+{
+    let one_more = one_more_than_x(work, history)?;
+    match match_pairs(work, history, one_more, t)? {
+        Some(pairs) => {
+            let line = law_with(work, history, law, pairs)?;
+            Ok(Some(line))
+        }
+        None => Ok(None),
+    }
+}
+
+/// Adds the line of a law that says that a term is a number.
+fn line_by_law(
+    work: &mut Work,
+    history: &History,
+    law: ArithmeticLaw,
+    t: TermId,
+) -> Result<Option<u64>, Stop>
+    requires stands { WorkStands history.now work.old }
+    requires term { IsTermIn history.now work.old t }
+    ensures line { IfOk result (λ found. IfSome found (λ n. LineStands work.new n)) }
+    ensures grows { WorkGrows history.now work.old work.new }
+    ensures out { result ≡ Err Stop.OutOfSteps → work.new.counter.used ≡ work.new.counter.limit }
+{
+    if is_above_zero(&work.bank, t) {
+        numeral_line(work, history, law, t)
+    } else {
+        let at = operands_or_whole(work, history, t);
+        let line = law_at(work, history, law, at)?;
+        Ok(Some(line))
+    }
+}
+
 /// Adds the line that a term is a number, where a law says so.
 pub fn number_line(work: &mut Work, history: &History, t: TermId) -> Result<Option<u64>, Stop>
     requires stands { WorkStands history.now work.old }
@@ -106,11 +164,7 @@ pub fn number_line(work: &mut Work, history: &History, t: TermId) -> Result<Opti
     ensures out { result ≡ Err Stop.OutOfSteps → work.new.counter.used ≡ work.new.counter.limit }
 {
     match number_law(&work.bank, t) {
-        Some(law) => {
-            let at = operands_or_whole(work, history, t);
-            let line = law_at(work, history, law, at)?;
-            Ok(Some(line))
-        }
+        Some(law) => line_by_law(work, history, law, t),
         None => Ok(None),
     }
 }

@@ -1,2 +1,3 @@
 pub mod CheckedLemmas
+pub mod ClosedLemmas
 pub mod ReadyLemmas

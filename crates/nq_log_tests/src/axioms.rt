@@ -7,12 +7,18 @@ ghost use Rattle.nq_kernel.specs.Ready.{IsReady};
 
 use crate::goals::{is_in, stands};
 use nq_bank::{Bank, Sym, TermId};
-use nq_history::{Entry, EntryKind, History, PushFault};
+use nq_history::{Class, Entry, EntryKind, History, PushFault};
 use std::process::Abort;
 use std::test::Fail;
 
-/// Adds an axiom.
-fn push_axiom(bank: &Bank, history: &mut History, name: Sym, t: TermId) -> Result<(), PushFault>
+/// Adds an axiom with these classes.
+fn push_axiom(
+    bank: &Bank,
+    history: &mut History,
+    name: Sym,
+    classes: Vec<Class>,
+    t: TermId,
+) -> Result<(), PushFault>
     requires stands { HistoryStands bank.now history.old }
     requires ready { IsReady (events_at bank.now history.old) }
     requires name { IsNamed bank.now name }
@@ -23,7 +29,7 @@ fn push_axiom(bank: &Bank, history: &mut History, name: Sym, t: TermId) -> Resul
 {
     let entry = Entry {
         name,
-        kind: EntryKind::Axiom(Vec::new(bank.alloc()), t),
+        kind: EntryKind::Axiom(classes, t),
         mark: bank.mark(),
     };
     history.push(bank, entry)
@@ -42,6 +48,7 @@ fn add_axiom(
     history: &mut History,
     first: u64,
     name: Sym,
+    classes: Vec<Class>,
     axiom: TermId,
 )
     requires stands { HistoryStands bank.now history.old }
@@ -52,11 +59,28 @@ fn add_axiom(
     assert!(rt; named(bank, name));
     assert!(rt; stands(bank, axiom));
     assert!(rt; is_in(bank, history, first, axiom));
-    let pushed = push_axiom(bank, history, name, axiom);
+    let pushed = push_axiom(bank, history, name, classes, axiom);
     assert!(rt; pushed.is_ok());
 }
 
-/// The ground history and an axiom of one of the first terms of the bank.
+/// The ground history and an axiom, with these classes, of one of the first terms of the bank.
+pub fn history_with_rule(
+    rt: &impl Abort,
+    bank: &mut Bank,
+    name: Sym,
+    classes: Vec<Class>,
+    axiom: TermId,
+) -> Result<History, Fail>
+    ensures stands { IfOk result (HistoryStands bank.new) }
+    ensures ready { IfOk result (λ h. IsReady (events_at bank.new h)) }
+{
+    let made = bank.len();
+    let mut history = History::ground(bank)?;
+    add_axiom(rt, bank, &mut history, made, name, classes, axiom);
+    Ok(history)
+}
+
+/// The ground history and an axiom, which is no rule, of one of the first terms of the bank.
 pub fn history_with(
     rt: &impl Abort,
     bank: &mut Bank,
@@ -66,8 +90,6 @@ pub fn history_with(
     ensures stands { IfOk result (HistoryStands bank.new) }
     ensures ready { IfOk result (λ h. IsReady (events_at bank.new h)) }
 {
-    let made = bank.len();
-    let mut history = History::ground(bank)?;
-    add_axiom(rt, bank, &mut history, made, name, axiom);
-    Ok(history)
+    let classes = Vec::new(bank.alloc());
+    history_with_rule(rt, bank, name, classes, axiom)
 }

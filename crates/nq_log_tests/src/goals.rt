@@ -5,9 +5,11 @@ ghost use Rattle.nq_bank.specs.declared.node.TermId.{TermId};
 ghost use Rattle.nq_bank.specs.Content.{Stands};
 ghost use Rattle.nq_history.specs.Events.{HistoryStands};
 ghost use Rattle.nq_kernel.specs.Over.{IsVariable, TermIsIn};
+ghost use Rattle.nq_lines.specs.Lines.{IsTermIn};
 
 use nq_bank::{Bank, Node, Sym, TermId, ground, ground_name};
 use nq_history::History;
+use nq_kernel::Work;
 use std::alloc::Global;
 use std::process::Abort;
 use std::test::Fail;
@@ -90,6 +92,22 @@ pub fn is_in(bank: &Bank, history: &History, count: u64, t: TermId) -> bool
     }
 }
 
+/// Is a term one of the first ones, over the functions of the history?
+pub fn is_term_in(work: &Work, history: &History, made: u64, t: TermId) -> bool
+    requires { HistoryStands work.now.bank history.now }
+    ensures { result ≡ true → IsTermIn history.now work.now t }
+{
+    stands(&work.bank, t) && is_in(&work.bank, history, made, t)
+}
+
+/// Are these such terms?
+pub fn are_terms_in(work: &Work, history: &History, made: u64, terms: &[TermId]) -> bool
+    requires { HistoryStands work.now.bank history.now }
+    ensures { result ≡ true → All (IsTermIn history.now work.now) terms.now }
+{
+    terms.iter().all(|t| is_term_in(work, history, made, *t))
+}
+
 /// The function that a byte stands for.
 fn function_of(byte: u8) -> Option<Sym>
     ensures { IfSome result (λ f. f.0 < ground_count) }
@@ -111,6 +129,22 @@ fn function_of(byte: u8) -> Option<Sym>
         b'*' => Some(ground::PLUS),
         b'@' => Some(ground::LISTP),
         b'S' => Some(ground::ASSOC),
+        b'd' => Some(ground::CDR),
+        b'%' => Some(ground::NLISTP),
+        b'^' => Some(ground::APPEND),
+        b'e' => Some(ground::MEMBER),
+        b'n' => Some(ground::NUMBERP),
+        b'a' => Some(ground::LITATOM),
+        b't' => Some(ground::TRUEP),
+        b'f' => Some(ground::FALSEP),
+        b'c' => Some(ground::COUNT),
+        b'l' => Some(ground::LESSP),
+        b'z' => Some(ground::ZEROP),
+        b'x' => Some(ground::FIX),
+        b'p' => Some(ground::PACK),
+        b'm' => Some(ground::MAX),
+        b'o' => Some(ground::ORD_LESSP),
+        b'g' => Some(ground::NEGATIVE_GUTS),
         _ => None,
     }
 }
@@ -118,8 +152,10 @@ fn function_of(byte: u8) -> Option<Sym>
 /// How many arguments the function has that a byte stands for.
 fn count_of(byte: u8) -> usize {
     match byte {
-        b'!' | b'$' | b'+' | b'-' | b'@' => 1,
+        b'!' | b'$' | b'+' | b'-' | b'@' | b'%' | b'd' => 1,
+        b'n' | b'a' | b't' | b'f' | b'c' | b'z' | b'x' | b'p' | b'g' => 1,
         b'&' | b'|' | b'>' | b'=' | b'~' | b'.' | b'*' | b'S' => 2,
+        b'^' | b'e' | b'l' | b'm' | b'o' => 2,
         b'?' => 3,
         _ => 0,
     }

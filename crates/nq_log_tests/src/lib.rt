@@ -1,5 +1,5 @@
-//! Tests of the checker of logs, of the first pass and of the moves, over what their crates make public. They stand in a crate of their own,
-//! since a crate with tests is proved twice.
+//! Tests of the checker of logs, of the first pass, and of the moves, over what their crates make public.
+//! They stand in a crate of their own, since a crate with tests is proved twice.
 //!
 //! Most are whole small logs with what is written for them.
 #![tactic(auto)]
@@ -34,6 +34,8 @@ mod goals;
 #[cfg(test)]
 mod quick;
 
-// goals with candidates of moves, and without
+// goals with candidates of moves, and without, and the lines of goals that were led on
+#[cfg(test)]
+mod closed;
 #[cfg(test)]
 mod moves;

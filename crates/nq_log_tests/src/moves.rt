@@ -1,12 +1,16 @@
 //! The moves: goals that have a candidate of a kind, and goals that have none.
-ghost use Rattle.std.specs.Prelude.{◌≡◌, All, true};
-ghost use Rattle.nq_history.specs.Events.{HistoryStands};
-ghost use Rattle.nq_kernel.specs.Growing.{WorkStands};
+ghost use Rattle.std.specs.Prelude.{All, IfOk, IfSome};
+ghost use Rattle.nq_history.specs.Events.{events_at, HistoryStands};
+ghost use Rattle.nq_kernel.specs.Growing.{WorkStands, WorkGrows};
+ghost use Rattle.nq_kernel.specs.Ready.{IsReady};
 ghost use Rattle.nq_lines.specs.Lines.{IsTermIn};
+ghost use Rattle.nq_moves.specs.Ways.{IsMove};
 
 use crate::axioms::history_with;
-use crate::goals::{is_in, stands, term};
+use crate::closed::{closed, has_only};
+use crate::goals::{are_terms_in, term};
 use nq_bank::{Bank, TermId};
+use nq_eliminate::eliminate_by_shell;
 use nq_generalize::generalize_move;
 use nq_history::{Hints, History};
 use nq_kernel::{Log, MoveKind, Stop, Work};
@@ -15,7 +19,8 @@ use std::alloc::Global;
 use std::process::Abort;
 use std::test::Fail;
 
-fn hints_with(alloc: Global, no_generalize: bool) -> Hints {
+/// Hints that say nothing, but whether they forbid generalizations.
+pub fn hints_with(alloc: Global, no_generalize: bool) -> Hints {
     Hints {
         instances: Vec::new(alloc),
         enable: Vec::new(alloc),
@@ -29,22 +34,6 @@ fn hints_with(alloc: Global, no_generalize: bool) -> Hints {
     }
 }
 
-/// Is a term one of the first ones, over the functions of the history?
-fn is_term_in(work: &Work, history: &History, made: u64, t: TermId) -> bool
-    requires { HistoryStands work.now.bank history.now }
-    ensures { result ≡ true → IsTermIn history.now work.now t }
-{
-    stands(&work.bank, t) && is_in(&work.bank, history, made, t)
-}
-
-/// Are these such terms?
-fn are_terms_in(work: &Work, history: &History, made: u64, terms: &[TermId]) -> bool
-    requires { HistoryStands work.now.bank history.now }
-    ensures { result ≡ true → All (IsTermIn history.now work.now) terms.now }
-{
-    terms.iter().all(|t| is_term_in(work, history, made, *t))
-}
-
 /// What the move of a kind finds in a goal, where there are no goals above it.
 fn moved(
     work: &mut Work,
@@ -54,7 +43,10 @@ fn moved(
     goal: &[TermId],
 ) -> Result<Option<Moved>, Stop>
     requires stands { WorkStands history.now work.old }
+    requires ready { IsReady (events_at work.old.bank history.now) }
     requires goal { All (IsTermIn history.now work.old) goal.now }
+    ensures moved { IfOk result (λ found. IfSome found (IsMove history.now work.new goal.now)) }
+    ensures grows { WorkGrows history.now work.old work.new }
 {
     match kind {
         MoveKind::Subst => substitute_move(work, history, hints, goal),
@@ -62,12 +54,35 @@ fn moved(
         MoveKind::Gen => generalize_move(work, history, hints, &[], goal),
         MoveKind::Irr => irrelevant_move(work, history, hints, goal),
         MoveKind::Simp => Ok(None),
-        MoveKind::Elim => Ok(None),
+        MoveKind::Elim => eliminate_by_shell(work, history, hints, &[], goal),
         MoveKind::Ind => Ok(None),
     }
 }
 
-/// How many goals the move of a kind leads to in work with few steps; none where it finds nothing, and then it uses no steps.
+/// How many goals the move of a kind leads to, and the line of the goal that is made from theirs; none where it finds nothing.
+fn led_on(
+    work: &mut Work,
+    history: &History,
+    hints: &Hints,
+    kind: MoveKind,
+    goal: &[TermId],
+) -> Result<Option<(usize, Option<u64>)>, Stop>
+    requires stands { WorkStands history.now work.old }
+    requires ready { IsReady (events_at work.old.bank history.now) }
+    requires goal { All (IsTermIn history.now work.old) goal.now }
+{
+    match moved(work, history, hints, kind, goal) {
+        Ok(Some(found)) => {
+            let line = closed(work, history, goal, &found);
+            Ok(Some((found.children.len(), line)))
+        }
+        Ok(None) => Ok(None),
+        Err(stop) => Err(stop),
+    }
+}
+
+/// How many goals the move of a kind leads to in work with few steps, where the goal's line is made from theirs; none where it finds
+/// nothing, and then it uses no steps.
 fn led_in(
     rt: &impl Abort,
     bank: Bank,
@@ -78,24 +93,26 @@ fn led_in(
     goal: &[TermId],
 ) -> Result<Option<usize>, Fail>
     requires stands { HistoryStands bank history.now }
+    requires ready { IsReady (events_at bank history.now) }
 {
     let alloc = bank.alloc();
-    let mut work = Work::new(bank, Log::new(alloc), 100);
+    let mut work = Work::new(bank, Log::new(alloc), 1000);
     let hints = hints_with(alloc, no_generalize);
     assert!(rt; are_terms_in(&work, history, made, goal));
-    let found = moved(&mut work, history, &hints, kind, goal);
-    assert!(rt; found.is_ok());
-    match found {
-        Ok(Some(moved)) => Ok(Some(moved.children.len())),
+    match led_on(&mut work, history, &hints, kind, goal) {
+        Ok(Some((count, line))) => {
+            assert!(rt; has_only(&work, line, goal));
+            Ok(Some(count))
+        }
         Ok(None) => {
             assert!(rt; work.counter.used() == 0);
             Ok(None)
         }
-        Err(_) => Ok(None),
+        Err(_) => Err("there are steps enough".into()),
     }
 }
 
-/// The same, of a goal with the literals of these texts, in the ground history.
+/// The same, of a goal with the literals of these texts, in the ground history with an axiom that proves all goals.
 fn led(
     rt: &impl Abort,
     alloc: Global,
@@ -198,6 +215,23 @@ fn groups_without_recursion_are_irrelevant(rt: HostRuntime) -> Result<(), Fail> 
     ] {
         let told = led(&rt, rt.alloc(), MoveKind::Irr, false, &literals)?;
         assert!(rt; told.is_some() == found);
+    }
+    Ok(())
+}
+
+// Each row is a goal, and to how many goals it is led: one for each hypothesis of the rule, and one more.
+#[test]
+fn eliminations_are_of_accessors_on_variables(rt: HostRuntime) -> Result<(), Fail> {
+    for (literals, count) in [
+        (["@$X", "~XP"], Some(2)),
+        (["P", "$*QdX"], Some(2)),
+        // no accessor is called on a variable
+        (["@$^XP", "~XP"], None),
+        (["@X", "*XP"], None),
+        (["@.XP", "$2"], None),
+    ] {
+        let told = led(&rt, rt.alloc(), MoveKind::Elim, false, &literals)?;
+        assert!(rt; told == count);
     }
     Ok(())
 }

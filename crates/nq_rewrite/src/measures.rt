@@ -107,12 +107,22 @@ fn are_simpler_by(bank: &Bank, e: &Entry, old: TermId, new: TermId) -> bool
     }
 }
 
+/// Is a term a value, and no numeral that is not small? One more opening of a call on such a numeral leaves a call on the next.
+fn is_plain_value(bank: &Bank, t: TermId) -> bool
+    requires { Stands bank.now t }
+{
+    match number_of(bank, t) {
+        Some(n) => n <= NUMBER_LIMIT,
+        None => bank.is_value(t),
+    }
+}
+
 /// Does each argument of a call stand in the goal, or is it a value?
 fn are_seen(bank: &Bank, goal: &[TermId], t: TermId) -> bool
     requires { Stands bank.now t }
 {
     for a in bank.args(t) {
-        if !bank.is_value(*a) && !has_id(goal, *a) {
+        if !is_plain_value(bank, *a) && !has_id(goal, *a) {
             return false;
         }
     }

@@ -16,6 +16,8 @@ struct Weight {
     apart: bool,
     /// Whether another draft changes one of its variables, or keeps one that it changes.
     flawed: bool,
+    /// Whether only comparisons of numbers suggest it.
+    compares: bool,
     /// Its score.
     score: u64,
     /// Whether its measured variables become nests of accessors of themselves.
@@ -71,6 +73,28 @@ fn own_calls(bank: &Bank, calls: &[TermId]) -> u64 {
     count
 }
 
+/// Is a term a call of LESSP?
+fn is_comparison(bank: &Bank, t: TermId) -> bool {
+    if t.0 < bank.len() {
+        match function_of(bank, t) {
+            Some(f) => f.0 == ground::LESSP.0,
+            None => false,
+        }
+    } else {
+        false
+    }
+}
+
+/// Are all of these calls of LESSP?
+fn are_comparisons(bank: &Bank, calls: &[TermId]) -> bool {
+    for t in calls {
+        if !is_comparison(bank, *t) {
+            return false;
+        }
+    }
+    true
+}
+
 /// The weights of the drafts that are still there, of which so many stand by themselves, and so many come before those that were
 /// merged. Between the two are pairs.
 fn weights_of(
@@ -87,6 +111,7 @@ fn weights_of(
                 apart: place >= whole,
                 flawed: draft.score == 0
                     || ((place < single || place >= whole) && is_flawed(drafts, single, place)),
+                compares: are_comparisons(bank, draft.calls.as_slice()),
                 score: draft.score,
                 by_parts: draft.by_parts,
                 calls: own_calls(bank, draft.calls.as_slice()),
@@ -109,6 +134,9 @@ fn is_before(one: &Weight, other: &Weight) -> bool {
     }
     if one.flawed != other.flawed {
         return other.flawed;
+    }
+    if one.compares != other.compares {
+        return other.compares;
     }
     if one.score != other.score {
         return one.score > other.score;

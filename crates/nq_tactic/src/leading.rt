@@ -11,13 +11,13 @@ ghost use Rattle.nq_search.specs.Searching.{IsLed};
 ghost use Rattle.nq_tactic.specs.Ways.{IsWay, nexts_of};
 
 use crate::arithmetic::number_line;
+use crate::generalizing::generalized;
 use crate::refuting::is_one_false;
 use crate::simplifying::{parted, simplified};
 use crate::tested::tested_line;
 use crate::trivial::truth_line;
 use crate::way::Way;
 use nq_bank::TermId;
-use nq_generalize::generalize_move;
 use nq_history::{Hints, History};
 use nq_kernel::{MoveKind, Stop, Work};
 use nq_moves::{Moved, fertilize_move, irrelevant_move, substitute_move};
@@ -164,7 +164,7 @@ fn move_of(
     match kind {
         MoveKind::Subst => substitute_move(work, history, hints, goal),
         MoveKind::Fert => fertilize_move(work, history, hints, goal),
-        MoveKind::Gen => generalize_move(work, history, hints, &[], goal),
+        MoveKind::Gen => generalized(work, history, hints, goal),
         MoveKind::Irr => irrelevant_move(work, history, hints, goal),
         MoveKind::Elim => Ok(None),
         MoveKind::Simp => Ok(None),

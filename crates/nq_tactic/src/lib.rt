@@ -29,6 +29,7 @@ mod refuting;
 
 // each way, and the way back
 mod closing;
+mod generalizing;
 mod inducting;
 mod leading;
 

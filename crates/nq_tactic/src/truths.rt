@@ -27,6 +27,16 @@ const TRUTH_FUNCTIONS: [Sym; 14] = [
     ground::NLISTP,
 ];
 
+/// The functions that only ask of their arguments whether they are F.
+const CONNECTIVES: [Sym; 6] = [
+    ground::IF,
+    ground::NOT,
+    ground::AND,
+    ground::OR,
+    ground::IMPLIES,
+    ground::IFF,
+];
+
 /// Is each value of a function T or F by what it is?
 fn is_truth_function(history: &History, f: Sym) -> bool {
     has_name(&TRUTH_FUNCTIONS, f) || recognized_place(history, f).is_some()
@@ -73,12 +83,17 @@ fn add_function(bank: &Bank, names: &mut Vec<Sym>, t: TermId) -> Result<(), Allo
     }
 }
 
-/// Adds the functions of the sides of a term, if it is an equation.
+/// Does a call of this function say nothing of the values of its arguments but whether they are F?
+fn is_connective(f: Sym) -> bool {
+    has_name(&CONNECTIVES, f)
+}
+
+/// Adds the functions of the arguments of a term, if it is an equation or another call that is no connective.
 fn add_sides(bank: &Bank, names: &mut Vec<Sym>, t: TermId) -> Result<(), AllocError>
     requires { Stands bank.now t }
 {
     if let Node::App(f, _) = bank.node(t) {
-        if f.0 == ground::EQUAL.0 {
+        if !is_connective(f) {
             for a in bank.args(t) {
                 add_function(bank, names, *a)?;
             }

@@ -8,6 +8,9 @@ mod shells;
 // definitions, axioms, toggles, undo, and instances
 mod events;
 
+// the ways of the rewriter
+mod rewriting;
+
 // a prover of another kind
 mod counting_prover;
 
