@@ -29,7 +29,7 @@ apart_from x v (y ∷ ys) m = by_test (λ n. apart_from x v ys n) (bytes_eq v y)
     by_test later false k (inl is) = turned k is (bytes_eq x v) refl
     by_test later false k (inr n) = later n
 
-still_among : (x v : Name) (ys : List Name) → bytes_eq x v ≡ false → IsAmong x ys → IsAmong x (without_name v ys)
+pub still_among : (x v : Name) (ys : List Name) → bytes_eq x v ≡ false → IsAmong x ys → IsAmong x (without_name v ys)
 still_among x v [] apart m = absurd m
 still_among x v (y ∷ ys) apart m = by_test (λ n. still_among x v ys apart n) (bytes_eq v y) refl m
   where
@@ -39,7 +39,7 @@ still_among x v (y ∷ ys) apart m = by_test (λ n. still_among x v ys apart n) 
     by_test later false k (inl is) = inl is
     by_test later false k (inr n) = inr (later n)
 
-once_among : (x : Name) (ys : List Name) → IsAmong x ys → IsAmong x (distinct_names ys)
+pub once_among : (x : Name) (ys : List Name) → IsAmong x ys → IsAmong x (distinct_names ys)
 once_among x [] m = absurd m
 once_among x (y ∷ ys) (inl is) = inl is
 once_among x (y ∷ ys) (inr m) = by_test (once_among x ys m) (bytes_eq x y) refl

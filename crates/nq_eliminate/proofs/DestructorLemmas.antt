@@ -2,7 +2,7 @@
 use Rattle.std.proofs.Common.{◌≡◌, ◌<◌, ◌≤◌, ◌+◌, ℕ, zero, suc, Bool, true, false, ◌&&◌, List, [], ◌∷◌, ◌++◌, length, map, take, get_or, refl, sym, ap, ap₂, ◌∙◌, subst, arith}
 use Rattle.std.specs.Prelude.{All, if◌then◌else◌}
 use Rattle.std.proofs.lemmas.List.{append-nil, map_push, take_all, take_more}
-use Rattle.nq_logic.specs.Terms.{Name, Term, Variable, Function, Applied, applied, call}
+use Rattle.nq_logic.specs.Terms.{Name, Term, Variable, Function, call}
 use Rattle.nq_logic.specs.Words.{numeral}
 use Rattle.nq_logic.specs.RuleShapes.{has_argument, has_distinct_variables, inner_terms, is_destructor_call}
 use Rattle.nq_bank.specs.declared.node.TermId.{TermId}
@@ -46,7 +46,7 @@ unfolding numeral
 suc_apart zero = refl
 suc_apart (suc n) = refl
 
-numeral_no_call : (x : Name) (n : ℕ) → is_destructor_call x (numeral n) ≡ false
+pub numeral_no_call : (x : Name) (n : ℕ) → is_destructor_call x (numeral n) ≡ false
 unfolding numeral
 numeral_no_call x zero = refl
 numeral_no_call x (suc n) = ap (λ b. b && has_argument x (numeral (suc n))) (suc_apart n)

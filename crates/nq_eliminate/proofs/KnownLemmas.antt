@@ -46,14 +46,20 @@ used_joined : (bank : Content) (path : List (Vec TermId Global)) (goal : List Te
 used_joined bank path goal =
     ap clause_variables (terms_joined bank (joined path) goal) ∙ (variables_joined (terms_at bank (joined path)) (terms_at bank goal) ∙ ap (λ r. r ++ clause_variables (terms_at bank goal)) (path_joined bank path))
 
--- with the variable they are the known ones
-pub known_joined : (bank : Content) (path : List (Vec TermId Global)) (goal : List TermId) (v : TermId) (e : Eliminating) → term_at bank v ≡ Variable e.variable → e.others ≡ [] → clause_variables (terms_at bank ((joined path ++ goal) ++ v ∷ [])) ≡ known_variables (goals_at bank path) (terms_at bank goal) e
-known_joined bank path goal v e is alone =
-    ap clause_variables (terms_joined bank (joined path ++ goal) (v ∷ []))
-    ∙ (variables_joined (terms_at bank (joined path ++ goal)) (term_at bank v ∷ [])
-    ∙ (ap (λ r. r ++ clause_variables (term_at bank v ∷ [])) (used_joined bank path goal)
-    ∙ (ap (λ t. used_variables (goals_at bank path) (terms_at bank goal) ++ clause_variables (t ∷ [])) is
-    ∙ ap (λ xs. used_variables (goals_at bank path) (terms_at bank goal) ++ (e.variable ∷ xs)) (sym alone))))
+names_back : (xs : List Name) → clause_variables (map Variable xs) ≡ xs
+names_back [] = refl
+names_back (x ∷ xs) = ap (λ r. x ∷ r) (names_back xs)
+
+-- with the variables they are the known ones
+pub known_joined : (bank : Content) (path : List (Vec TermId Global)) (goal : List TermId) (v : TermId) (others : List TermId) (e : Eliminating) → term_at bank v ≡ Variable e.variable → terms_at bank others ≡ map Variable e.others →
+    clause_variables (terms_at bank ((joined path ++ goal) ++ v ∷ others)) ≡ known_variables (goals_at bank path) (terms_at bank goal) e
+known_joined bank path goal v others e is are =
+    ap clause_variables (terms_joined bank (joined path ++ goal) (v ∷ others))
+    ∙ (variables_joined (terms_at bank (joined path ++ goal)) (term_at bank v ∷ terms_at bank others)
+    ∙ (ap (λ r. r ++ clause_variables (term_at bank v ∷ terms_at bank others)) (used_joined bank path goal)
+    ∙ (ap (λ t. used_variables (goals_at bank path) (terms_at bank goal) ++ clause_variables (t ∷ terms_at bank others)) is
+    ∙ (ap (λ ts. used_variables (goals_at bank path) (terms_at bank goal) ++ (e.variable ∷ clause_variables ts)) are
+    ∙ ap (λ xs. used_variables (goals_at bank path) (terms_at bank goal) ++ (e.variable ∷ xs)) (names_back e.others)))))
 
 goal_within : (c d : Clause) (t : Term) → IsAmong t d → IsAmong t (c ++ d)
 goal_within [] d t m = m
@@ -103,13 +109,13 @@ more_free y w eq g hs e k =
     or_both false b f = (refl, f)
 
 -- what is free in the known terms is free in those that are renamed
-pub rename_free : (e : Eliminating) (known g : Clause) (y : Name) → IsPlain e → IsAmong (Variable e.variable) known → AreAmong g known → occurs_in_one y known ≡ false → occurs_in_one y (whole_of e ∷ not_term (equation_of e) ∷ (g ++ map not_term (hypotheses_of e))) ≡ false
+pub rename_free : (e : Eliminating) (known g : Clause) (y : Name) → IsPlain e → ((x : Name) → IsAmong x (e.variable ∷ e.others) → IsAmong (Variable x) known) → AreAmong g known → occurs_in_one y known ≡ false → occurs_in_one y (whole_of e ∷ not_term (equation_of e) ∷ (g ++ map not_term (hypotheses_of e))) ≡ false
 rename_free e known g y plain there within free = more_free y (whole_of e) (equation_of e) g (hypotheses_of e) (by_test (occurs_in_one y (whole_of e ∷ equation_of e ∷ hypotheses_of e)) refl) (among_free y g known within free)
   where
     by_test : (b : Bool) → occurs_in_one y (whole_of e ∷ equation_of e ∷ hypotheses_of e) ≡ b → b ≡ false
     by_test true told =
-        let own : occurs y (Variable e.variable) ≡ true = subst (λ x. occurs y (Variable x) ≡ true) (plain.variables y told) (own_occurs y) in
-        let none : occurs y (Variable e.variable) ≡ false = free_in y known free (Variable e.variable) there in
+        let own : occurs y (Variable y) ≡ true = own_occurs y in
+        let none : occurs y (Variable y) ≡ false = free_in y known free (Variable y) (there y (plain.variables y told)) in
         absurd (cc)
     by_test false told = refl
 
@@ -130,16 +136,22 @@ path_in : (history : List Entry) (work : Work) (path : List (Vec TermId Global))
 path_in history work [] h = no_ids_in history work
 path_in history work (g ∷ path) h = ids_append history work g.items (joined path) (All-head (λ v. All (IsTermIn history work) v.items) g path h) (path_in history work path (All-tail (λ v. All (IsTermIn history work) v.items) g path h))
 
-pub known_in : (history : List Entry) (work : Work) (path : List (Vec TermId Global)) (goal : List TermId) (t : TermId) → All (λ g. All (IsTermIn history work) g.items) path → All (IsTermIn history work) goal → IsTermIn history work t → All (IsTermIn history work) ((joined path ++ goal) ++ t ∷ [])
-known_in history work path goal t h k l =
-    ids_append history work (joined path ++ goal) (t ∷ []) (ids_append history work (joined path) goal (path_in history work path h) k) (ids_cons history work t [] l (no_ids_in history work))
+pub known_in : (history : List Entry) (work : Work) (path : List (Vec TermId Global)) (goal : List TermId) (t : TermId) (others : List TermId) → All (λ g. All (IsTermIn history work) g.items) path → All (IsTermIn history work) goal → IsTermIn history work t → All (IsTermIn history work) others →
+    All (IsTermIn history work) ((joined path ++ goal) ++ t ∷ others)
+known_in history work path goal t others h k l m =
+    ids_append history work (joined path ++ goal) (t ∷ others) (ids_append history work (joined path) goal (path_in history work path h) k) (ids_cons history work t others l m)
 
--- the goal and the variable are among the known terms
-pub goal_known : (bank : Content) (path : List (Vec TermId Global)) (goal : List TermId) (t : TermId) → AreAmong (terms_at bank goal) (terms_at bank ((joined path ++ goal) ++ t ∷ []))
-goal_known bank path goal t u m =
-    subst (IsAmong u) (sym (terms_joined bank (joined path ++ goal) (t ∷ []) ∙ ap (λ c. c ++ terms_at bank (t ∷ [])) (terms_joined bank (joined path) goal)))
-    (goal_before (terms_at bank (joined path) ++ terms_at bank goal) (terms_at bank (t ∷ [])) u (goal_within (terms_at bank (joined path)) (terms_at bank goal) u m))
+-- the goal and the variables are among the known terms
+pub goal_known : (bank : Content) (path : List (Vec TermId Global)) (goal : List TermId) (these : List TermId) → AreAmong (terms_at bank goal) (terms_at bank ((joined path ++ goal) ++ these))
+goal_known bank path goal these u m =
+    subst (IsAmong u) (sym (terms_joined bank (joined path ++ goal) these ∙ ap (λ c. c ++ terms_at bank these) (terms_joined bank (joined path) goal)))
+    (goal_before (terms_at bank (joined path) ++ terms_at bank goal) (terms_at bank these) u (goal_within (terms_at bank (joined path)) (terms_at bank goal) u m))
 
-pub variable_known : (bank : Content) (path : List (Vec TermId Global)) (goal : List TermId) (t : TermId) → IsAmong (term_at bank t) (terms_at bank ((joined path ++ goal) ++ t ∷ []))
-variable_known bank path goal t =
-    subst (IsAmong (term_at bank t)) (sym (terms_joined bank (joined path ++ goal) (t ∷ []))) (goal_within (terms_at bank (joined path ++ goal)) (terms_at bank (t ∷ [])) (term_at bank t) (inl refl))
+variable_mapped : (x : Name) (xs : List Name) → IsAmong x xs → IsAmong (Variable x) (map Variable xs)
+variable_mapped x [] m = m
+variable_mapped x (y ∷ xs) (inl e) = inl (ap Variable e)
+variable_mapped x (y ∷ xs) (inr m) = inr (variable_mapped x xs m)
+
+pub variables_known : (bank : Content) (path : List (Vec TermId Global)) (goal these : List TermId) (xs : List Name) → terms_at bank these ≡ map Variable xs → (x : Name) → IsAmong x xs → IsAmong (Variable x) (terms_at bank ((joined path ++ goal) ++ these))
+variables_known bank path goal these xs are x m =
+    subst (IsAmong (Variable x)) (sym (terms_joined bank (joined path ++ goal) these)) (goal_within (terms_at bank (joined path ++ goal)) (terms_at bank these) (Variable x) (subst (IsAmong (Variable x)) (sym are) (variable_mapped x xs m)))

@@ -195,7 +195,7 @@ pub none_is_none : NoneIsNone
 none_is_none h hints goal none e candidate = subst (IsAmong (other h hints goal e candidate)) none (listed h hints goal e candidate)
 
 -- as many names as variables
-names_many : (ps : Pairs) (xs new : List Name) → length xs ≤ length new → length (names_for ps xs new) ≡ length xs
+pub names_many : (ps : Pairs) (xs new : List Name) → length xs ≤ length new → length (names_for ps xs new) ≡ length xs
 names_many ps [] new enough = refl
 names_many ps (x ∷ xs) new enough = by_name (λ ys more. names_many ps xs ys more) (name_in ps x) new enough
   where

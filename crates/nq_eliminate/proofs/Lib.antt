@@ -15,6 +15,16 @@ pub mod OverLemmas
 pub mod InstanceLemmas
 pub mod ShellSteps
 pub mod DestructorLemmas
+pub mod CallShapes
+pub mod ImageLemmas
+pub mod SupposingLemmas
 pub mod ServingLemmas
 pub mod FindingLemmas
 pub mod RuleLemmas
+pub mod EventLemmas
+pub mod ChosenLemmas
+pub mod NamingLemmas
+pub mod IdLemmas
+pub mod PartLemmas
+pub mod FillingLemmas
+pub mod FilledLemmas

@@ -6,7 +6,7 @@ use Rattle.std.proofs.lemmas.List.{append-nil, take_all, take_more}
 use Rattle.nq_bank.specs.declared.node.TermId.{TermId}
 use Rattle.nq_eliminate.specs.Literals.{joined}
 
-ids_assoc : (xs ys zs : List TermId) → (xs ++ ys) ++ zs ≡ xs ++ (ys ++ zs)
+pub ids_assoc : (xs ys zs : List TermId) → (xs ++ ys) ++ zs ≡ xs ++ (ys ++ zs)
 ids_assoc [] ys zs = refl
 ids_assoc (x ∷ xs) ys zs = ap (λ r. x ∷ r) (ids_assoc xs ys zs)
 

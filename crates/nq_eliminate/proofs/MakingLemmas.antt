@@ -41,7 +41,7 @@ use Rattle.nq_eliminate.specs.declared.making.Prepared.{Prepared}
 use Rattle.nq_eliminate.specs.Instances.{Eliminates, IsChosen, IsInstance, IsPlain, equation_of}
 use Rattle.nq_eliminate.specs.Kept.{IsKept, IsPrepared, IsRenamedBy, kept_of}
 use Rattle.nq_eliminate.specs.Literals.{joined}
-use Rattle.nq_eliminate.proofs.KnownLemmas.{goal_known, known_in, known_joined, rename_free, variable_known}
+use Rattle.nq_eliminate.proofs.KnownLemmas.{goal_known, known_in, known_joined, rename_free, variables_known}
 
 -- an instance stays one however the work grows
 module _ (history : List Entry) (old new : Work) (stood : WorkStands history old) (grows : WorkGrows history old new) where
@@ -58,6 +58,8 @@ module _ (history : List Entry) (old new : Work) (stood : WorkStands history old
         named = text_at-grown old.bank new.bank r.name grows.bank h.name ∙ h.named;
         variable = term_grown history old new r.variable stood grows h.variable;
         variable_is = same_term_grown history old new r.variable grows h.variable ∙ h.variable_is;
+        others = all_grown r.others.items h.others;
+        others_are = terms_same r.others.items h.others ∙ h.others_are;
         whole = term_grown history old new r.whole stood grows h.whole;
         whole_is = same_term_grown history old new r.whole grows h.whole ∙ h.whole_is;
         calls = all_grown r.calls.items h.calls;
@@ -255,7 +257,7 @@ module _ (history : List Entry) (old mid new : Work) (stood : WorkStands history
   -- the elimination, and the goals of the table
   module _ (path : List (Vec TermId Global)) (goal : List TermId) (paths : All (λ g. All (IsTermIn history old) g.items) path) (all : All (IsTermIn history old) goal) (r : Instance) (e : Eliminating) (plain : IsPlain e) (instance : IsInstance history old e r) (p : Prepared) (prep : IsPrepared history mid goal r p) where
     abbrev knowns : List TermId
-    knowns = (joined path ++ goal) ++ r.variable ∷ []
+    knowns = (joined path ++ goal) ++ r.variable ∷ r.others.items
 
     inst_mid : IsInstance history mid e r
     inst_mid = instance_grown history old mid stood up e r instance
@@ -274,12 +276,15 @@ module _ (history : List Entry) (old mid new : Work) (stood : WorkStands history
         equation_mid = prep.equation_is ∙ ap₂ (λ (a b : Term). equal_term a b) inst_mid.whole_is inst_mid.variable_is
 
     pub known_in_mid : All (IsTermIn history mid) knowns
-    known_in_mid = known_in history mid path goal r.variable (λ k d below. all_grown history old mid stood up (get_or path k d).items (paths k d below)) (all_grown history old mid stood up goal all) inst_mid.variable
+    known_in_mid = known_in history mid path goal r.variable r.others.items (λ k d below. all_grown history old mid stood up (get_or path k d).items (paths k d below)) (all_grown history old mid stood up goal all) inst_mid.variable inst_mid.others
+
+    variables_mid : terms_at mid.bank (r.variable ∷ r.others.items) ≡ map Variable (e.variable ∷ e.others)
+    variables_mid = ap₂ (λ (t : Term) (ts : Clause). t ∷ ts) inst_mid.variable_is inst_mid.others_are
 
     pub literals_free : (y : Name) → occurs_in_one y (terms_at mid.bank knowns) ≡ false → occurs_in_one y (terms_at mid.bank p.literals.items) ≡ false
     literals_free y free =
         subst (λ ts. occurs_in_one y ts ≡ false) (sym prepared_all)
-        (rename_free e (terms_at mid.bank knowns) (terms_at mid.bank goal) y plain (subst (λ t. IsAmong t (terms_at mid.bank knowns)) inst_mid.variable_is (variable_known mid.bank path goal r.variable)) (goal_known mid.bank path goal r.variable) free)
+        (rename_free e (terms_at mid.bank knowns) (terms_at mid.bank goal) y plain (variables_known mid.bank path goal (r.variable ∷ r.others.items) (e.variable ∷ e.others) variables_mid) (goal_known mid.bank path goal (r.variable ∷ r.others.items)) free)
 
     pub calls_in_mid : All (IsTermIn history mid) r.calls.items
     calls_in_mid = inst_mid.calls
@@ -320,7 +325,7 @@ module _ (history : List Entry) (old mid new : Work) (stood : WorkStands history
       named : pair_names (substitution_at new.bank ren.renaming.pairs.items) ≡ new_variables (known_variables (goals_at old.bank path) (terms_at old.bank goal) e) (length (destructors_of e))
       named =
           ren.names
-          ∙ ap (λ us. new_variables us (length r.calls.items)) (known_joined mid.bank path goal r.variable e inst_mid.variable_is plain.alone)
+          ∙ ap (λ us. new_variables us (length r.calls.items)) (known_joined mid.bank path goal r.variable r.others.items e inst_mid.variable_is inst_mid.others_are)
           ∙ ap₂ (λ (gs : List Clause) (g : Clause). new_variables (known_variables gs g e) (length r.calls.items)) path_same (terms_same history old mid stood up goal all)
           ∙ ap (new_variables (known_variables (goals_at old.bank path) (terms_at old.bank goal) e)) many
 
@@ -347,3 +352,7 @@ candidate_at h hints g k e same candidate = subst (λ c. EliminateCandidate h hi
 pub eliminates_before : (h : History) (hints : Hints) (old mid new : Content) (path : List (Vec TermId Global)) (goal : List TermId) (moved : Moved) → terms_at mid goal ≡ terms_at old goal → goals_at mid path ≡ goals_at old path → Eliminates h hints mid new path goal moved → Eliminates h hints old new path goal moved
 eliminates_before h hints old mid new path goal moved same paths m =
     record { leads = subst (λ p. EliminateMove h hints p (terms_at old goal) (goals_at new moved.children.items)) paths (subst (λ g. EliminateMove h hints (goals_at mid path) g (goals_at new moved.children.items)) same m.leads) }
+
+-- a call that told nothing left the work as it was
+pub as_before : (old new : Work) (P : Work → Type 0) → new ≡ old → P old → P new
+as_before old new P same h = subst P (sym same) h

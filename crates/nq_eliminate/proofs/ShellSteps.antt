@@ -34,6 +34,7 @@ use Rattle.nq_eliminate.specs.Instances.{IsInstance}
 use Rattle.nq_eliminate.specs.Made.{base_denied, IsBaseEquation, IsMade, IsShellOver, hypotheses_on, made_on, made_row}
 use Rattle.nq_eliminate.specs.Shells.{eliminating_by}
 use Rattle.nq_eliminate.proofs.InstanceLemmas.{row_grown}
+use Rattle.nq_eliminate.proofs.KnownLemmas.{no_ids_in}
 use Rattle.nq_eliminate.proofs.MadeLemmas.{destructors_made, hypotheses_made, whole_made}
 
 -- ---- the base
@@ -128,15 +129,17 @@ module _ (history : List Entry) (old new : Work) (stood : WorkStands history old
   made_variable_in : IsTermIn history old m.variable
   made_variable_in = record { stands = made.variable.stands; over = subst (λ t. IsOver (events_at old.bank history) t) (sym made.variable.denotes) (record { over = tt; variables = plain }) }
 
-  pub instance_made : (calls hypotheses : Vec TermId Global) (line : ℕ) → terms_at new.bank calls.items ≡ distinct (terms_at new.bank m.calls.items) → All (Stands new.bank) calls.items → terms_at new.bank hypotheses.items ≡ hypotheses_on (Variable x) s → All (IsTermIn history new) hypotheses.items →
-      LineHasOnly new line (equal_term (made_on (Variable x) s) (Variable x) ∷ map not_term (hypotheses_on (Variable x) s)) → IsInstance history new (eliminating_by s x) (record { name = name; variable = m.variable; whole = m.whole; calls = calls; hypotheses = hypotheses; line = line })
-  instance_made calls hypotheses line calls_are stand hyps_are hyps_in says =
+  pub instance_made : (others calls hypotheses : Vec TermId Global) (line : ℕ) → others.items ≡ [] → terms_at new.bank calls.items ≡ distinct (terms_at new.bank m.calls.items) → All (Stands new.bank) calls.items → terms_at new.bank hypotheses.items ≡ hypotheses_on (Variable x) s → All (IsTermIn history new) hypotheses.items →
+      LineHasOnly new line (equal_term (made_on (Variable x) s) (Variable x) ∷ map not_term (hypotheses_on (Variable x) s)) → IsInstance history new (eliminating_by s x) (record { name = name; variable = m.variable; others = others; whole = m.whole; calls = calls; hypotheses = hypotheses; line = line })
+  instance_made others calls hypotheses line none calls_are stand hyps_are hyps_in says =
       let told : terms_at new.bank calls.items ≡ distinct (accessed (Variable x) s.parts) = calls_are ∙ ap distinct (terms_at-grown old.bank new.bank m.calls.items grows.bank made.stand ∙ made.calls) in
       record {
         name = IsNamed-grown old.bank new.bank name grows.bank named;
         named = text_at-grown old.bank new.bank name grows.bank named;
         variable = term_grown history old new m.variable stood grows made_variable_in;
         variable_is = (id_grown old.bank new.bank m.variable (Variable x) grows.bank made.variable).denotes;
+        others = subst (All (IsTermIn history new)) (sym none) (no_ids_in history new);
+        others_are = ap (terms_at new.bank) none;
         whole = id_over history old new stood grows m.whole (made_on (Variable x) s) (id_grown old.bank new.bank m.whole (made_on (Variable x) s) grows.bank made.whole) over.made;
         whole_is = (id_grown old.bank new.bank m.whole (made_on (Variable x) s) grows.bank made.whole).denotes ∙ sym (whole_made s x);
         calls = ids_in history new calls.items stand (λ t k. over_grown history old new stood grows t (each_among (IsOver (events_at old.bank history)) (accessed (Variable x) s.parts) t over.calls (from_distinct t (accessed (Variable x) s.parts) (subst (IsAmong t) told k))));

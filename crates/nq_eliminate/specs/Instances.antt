@@ -1,7 +1,7 @@
 -- Instances of elimination rules over ids, and what their ELIM leads to.
 use Rattle.std.specs.Prelude.{◌≡◌, true, false, List, [], ◌∷◌, map, All, Vec}
 use Rattle.std.specs.declared.alloc.Global.{Global}
-use Rattle.nq_logic.specs.Terms.{Name, Term, Variable, Each}
+use Rattle.nq_logic.specs.Terms.{Name, Term, Variable, Each, IsAmong}
 use Rattle.nq_logic.specs.Histories.{History}
 use Rattle.nq_logic.specs.Values.{is_value}
 use Rattle.nq_logic.specs.Words.{not_term, equal_term}
@@ -32,6 +32,8 @@ pub record IsInstance (history : List Entry) (work : Work) (e : Eliminating) (r 
   pub named : text_at work.bank r.name ≡ e.variable
   pub variable : IsTermIn history work r.variable
   pub variable_is : term_at work.bank r.variable ≡ Variable e.variable
+  pub others : All (IsTermIn history work) r.others.items
+  pub others_are : terms_at work.bank r.others.items ≡ map Variable e.others
   pub whole : IsTermIn history work r.whole
   pub whole_is : term_at work.bank r.whole ≡ whole_of e
   pub calls : All (IsTermIn history work) r.calls.items
@@ -40,12 +42,11 @@ pub record IsInstance (history : List Entry) (work : Work) (e : Eliminating) (r 
   pub hypotheses_are : terms_at work.bank r.hypotheses.items ≡ hypotheses_of e
   pub says : LineHasOnly work r.line (equation_of e ∷ map not_term (hypotheses_of e))
 
--- The variable is the only one of the elimination's terms. Its destructor calls are no values, and stand in its equation within the
--- whole alone.
+-- The elimination's terms have no variables but the eliminated one and the others. Its destructor calls are no values, and stand in its
+-- equation within the whole alone.
 pub record IsPlain (e : Eliminating) : Type 0 where
-  pub alone : e.others ≡ []
   pub values : Each (λ t. is_value t ≡ false) (destructors_of e)
-  pub variables : (y : Name) → occurs_in_one y (whole_of e ∷ equation_of e ∷ hypotheses_of e) ≡ true → y ≡ e.variable
+  pub variables : (y : Name) → occurs_in_one y (whole_of e ∷ equation_of e ∷ hypotheses_of e) ≡ true → IsAmong y (e.variable ∷ e.others)
   pub within : (xs : List Name) → exchanged (exchange_of (destructors_of e) xs) (not_term (equation_of e)) ≡ not_term (equal_term (exchanged (exchange_of (destructors_of e) xs) (whole_of e)) (Variable e.variable))
 
 -- it is the instance of an elimination

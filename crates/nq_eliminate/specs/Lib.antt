@@ -1,7 +1,12 @@
 pub mod Laws
 pub mod Shells
+pub mod Images
 pub mod Serving
 pub mod Finding
+pub mod Choosing
+pub mod Supposing
+pub mod Naming
+pub mod Filling
 pub mod Made
 pub mod Literals
 pub mod Instances

@@ -8,6 +8,8 @@ pub struct Instance {
     pub name: Sym,
     /// The variable.
     pub variable: TermId,
+    /// The other variables.
+    pub others: Vec<TermId>,
     /// What it is made of.
     pub whole: TermId,
     /// The destructor calls.

@@ -39,14 +39,15 @@ pub fn put_all(ids: &mut Vec<TermId>, more: &[TermId]) -> Result<(), Stop>
     }
 }
 
-/// The literals of the goals of a path, then those of the goal below it, and then a term.
+/// The literals of the goals of a path, then those of the goal below it, then a term and others.
 pub fn known_terms(
     alloc: Global,
     path: &[Vec<TermId>],
     goal: &[TermId],
     t: TermId,
+    others: &[TermId],
 ) -> Result<Vec<TermId>, Stop>
-    ensures all { IfOk result (λ v. v.items ≡ (joined path.now ++ goal.now) ++ t ∷ []) }
+    ensures all { IfOk result (λ v. v.items ≡ (joined path.now ++ goal.now) ++ t ∷ others.now) }
     ensures memory { result ≡ Err Stop.OutOfSteps → ⊥ }
 {
     let mut all = Vec::new(alloc);
@@ -55,5 +56,6 @@ pub fn known_terms(
     }
     put_all(&mut all, goal)?;
     push_id(&mut all, t)?;
+    put_all(&mut all, others)?;
     Ok(all)
 }

@@ -186,7 +186,8 @@ fn eliminated(
     ensures out { result ≡ Err Stop.OutOfSteps → work.new.counter.used ≡ work.new.counter.limit }
 {
     let p = prepare(work, history, goal, &r)?;
-    let known = known_terms(work.bank.alloc(), path, goal, r.variable)?;
+    let others = r.others.as_slice();
+    let known = known_terms(work.bank.alloc(), path, goal, r.variable, others)?;
     renamed(work, history, known.as_slice(), r, p)
 }
 

@@ -216,9 +216,11 @@ fn with_rule(
     let hypotheses = hypotheses_of(work, history, shell, variable, base)?;
     let line = rule_line(work, history, shell, variable, base)?;
     let calls = distinct_clause(&work.bank, calls.as_slice())?;
+    let others = Vec::new(work.bank.alloc());
     Ok(Instance {
         name,
         variable,
+        others,
         whole,
         calls,
         hypotheses,

@@ -19,7 +19,7 @@ use nq_legal::Legal;
 use nq_literal::LiteralRewriter;
 use std::alloc::{AllocError, Global};
 
-/// What is told of a lemma by simplification, SUBST, ELIM by the rules of shells, FERT, GEN, IRR and inductions by one case, in work
+/// What is told of a lemma by simplification, SUBST, ELIM, FERT, GEN, IRR and inductions by one case, in work
 /// that begins with no step used and may take so many. Goals whose inductions led to proved goals alone are closed by the free search.
 pub fn give_up(
     alloc: Global,

@@ -21,7 +21,7 @@ use Rattle.nq_goals.specs.Generalizing.{GeneralizeMove, generalizings_of}
 use Rattle.nq_goals.specs.Eliminating.{EliminateMove}
 use Rattle.nq_goals.specs.Moves.{IsMove, eliminates, generalizes}
 use Rattle.nq_eliminate.specs.Instances.{Eliminates}
-use Rattle.nq_eliminate.specs.Shells.{HasNoneOfShells}
+use Rattle.nq_eliminate.specs.Finding.{HasNoElimination}
 use Rattle.nq_moves.specs.declared.moved.Moved.{Moved}
 use Rattle.nq_generalize.specs.Found.{Generalizes}
 use Rattle.nq_waterfall.specs.Kinds.{goal_kind}
@@ -78,5 +78,5 @@ module _ (history : List Entry) (hints : Hints) (old new : Work) (ready : CanMov
       scene_grown history hints old new path goal (λ (h : History) (hs : model.Hints) (a : Above) (c : Clause). IsMove h hs a (goal_kind kind.Elim) c nexts) ready grows stand (goal_stands history old goal goal_in)
       (eliminates (terms_at old.bank goal) nexts normal (subst (λ (gs : List Clause). EliminateMove (events_at old.bank history) (hints_at old.bank hints) gs (terms_at old.bank goal) nexts) goals e.leads))
 
-  pub no_elimination : HasNoneOfShells (events_at old.bank history) (terms_at old.bank goal) → HasNoneOfShells (events_at new.bank history) (terms_at new.bank goal)
-  no_elimination e = scene_grown history hints old new path goal (λ (h : History) (hs : model.Hints) (a : Above) (c : Clause). HasNoneOfShells h c) ready grows stand (goal_stands history old goal goal_in) e
+  pub no_elimination : HasNoElimination (events_at old.bank history) (hints_at old.bank hints) (terms_at old.bank goal) → HasNoElimination (events_at new.bank history) (hints_at new.bank hints) (terms_at new.bank goal)
+  no_elimination e = scene_grown history hints old new path goal (λ (h : History) (hs : model.Hints) (a : Above) (c : Clause). HasNoElimination h hs c) ready grows stand (goal_stands history old goal goal_in) e

@@ -10,19 +10,15 @@ use Rattle.nq_proof.specs.Clauses.{Clause}
 use Rattle.nq_history.specs.declared.entry.Entry.{Entry}
 use Rattle.nq_history.specs.declared.hints.Hints.{Hints}
 use Rattle.nq_history.specs.Events.{events_at}
-use Rattle.nq_goals.specs.Normal.{IsNormal}
 use Rattle.nq_event.specs.EventsAt.{hints_at}
 use Rattle.nq_kernel.specs.declared.verdict.Cause.TheVariants as causes
 use Rattle.nq_goals.specs.Inducting.{hinted_call, hinted_or, hinted_term, scheme_calls, suggesting_among, suggesting_in, suggestions}
 use Rattle.nq_goals.specs.Moves.{IsSubsumed, induction_limit, no_candidate}
 use Rattle.nq_goals.specs.Paths.{inducted_goals, inductions}
-use Rattle.nq_goals.specs.Spent.{IsFalse, normal}
+use Rattle.nq_goals.specs.Spent.{normal}
 use Rattle.nq_waterfall.specs.declared.trail.Ancestor.{Ancestor}
 use Rattle.nq_waterfall.specs.Trails.{above_at}
 use Rattle.nq_waterfall.specs.Turns.{SpentAt}
-use Rattle.nq_eliminate.specs.Finding.{HasNoneOfEvents}
-use Rattle.nq_eliminate.specs.Laws.{RulesSuffice}
-use Rattle.nq_legal.specs.Candidates.{HasNoneOfFive}
 use Rattle.nq_legal.specs.Leaving.{IsFreeAt, IsHintedAt, IsStuck, IsToHint, IsToInduct}
 
 free_none : (o : Option Term) (gs : List Clause) → o ≡ None → hinted_term o gs ≡ []
@@ -137,19 +133,3 @@ not_told false P e k p = absurd (never (k.1 p))
   where
     never : false ≡ true → ⊥
     never e = absurd cc
-
--- a goal is stuck in which these moves have no candidate, nor ELIM by the rule of an axiom or a lemma
-pub stuck_if : (bank : Content) (history : List Entry) (hints : Hints) (goal : List TermId) → RulesSuffice → HasNoneOfEvents (events_at bank history) (hints_at bank hints) (terms_at bank goal) → IsNormal (events_at bank history) (hints_at bank hints) (terms_at bank goal) →
-    (IsFalse (events_at bank history) (terms_at bank goal) → ⊥) → HasNoneOfFive (events_at bank history) (hints_at bank hints) (terms_at bank goal) → IsStuck bank history hints goal
-stuck_if bank history hints goal law none_of_events form not_false five =
-    record {
-      normal = form;
-      not_false = not_false;
-      none = record {
-        no_substituting = five.of_four.no_substituting;
-        no_eliminating = law (events_at bank history) (hints_at bank hints) (terms_at bank goal) none_of_events five.of_shells;
-        no_fertilizing = five.of_four.no_fertilizing;
-        no_generalizing = five.of_four.no_generalizing;
-        no_dropping = five.of_four.no_dropping;
-      };
-    }

@@ -7,7 +7,6 @@ use Rattle.nq_goals.specs.Dropping.{droppings_of}
 use Rattle.nq_goals.specs.Fertilizing.{fertilizings_of}
 use Rattle.nq_goals.specs.Generalizing.{generalizings_of}
 use Rattle.nq_goals.specs.Substituting.{substitutions_of}
-use Rattle.nq_eliminate.specs.Shells.{HasNoneOfShells}
 
 -- no candidate of GEN or IRR
 pub record HasNoneLess (h : History) (hints : Hints) (goal : List Term) : Type 0 where
@@ -20,8 +19,3 @@ pub record HasNoneOfFour (h : History) (hints : Hints) (goal : List Term) : Type
   pub no_fertilizing : fertilizings_of goal ≡ []
   pub no_generalizing : generalizings_of h hints goal ≡ []
   pub no_dropping : droppings_of h goal ≡ []
-
--- no candidate of these, nor one of ELIM by the rule of a shell
-pub record HasNoneOfFive (h : History) (hints : Hints) (goal : List Term) : Type 0 where
-  pub of_four : HasNoneOfFour h hints goal
-  pub of_shells : HasNoneOfShells h goal

@@ -1,10 +1,11 @@
-//! Goals that ELIM leads on, by the rules of shells.
+//! Goals that ELIM leads on.
 ghost use Rattle.std.specs.Prelude.{◌≡◌, All, IfOk, MatchOption, Err};
 ghost use Rattle.nq_bank.specs.Content.{terms_at};
 ghost use Rattle.nq_history.specs.Events.{events_at};
 ghost use Rattle.nq_goals.specs.Paths.{goals_above};
 ghost use Rattle.nq_kernel.specs.Growing.{WorkGrows};
-ghost use Rattle.nq_eliminate.specs.Shells.{HasNoneOfShells};
+ghost use Rattle.nq_eliminate.specs.Finding.{HasNoElimination};
+ghost use Rattle.nq_event.specs.EventsAt.{hints_at};
 ghost use Rattle.nq_waterfall.specs.Ready.{CanMove, IsGoalIn, IsPathIn};
 ghost use Rattle.nq_waterfall.specs.Trails.{AncestorStands, above_at, goals_at};
 ghost use Rattle.nq_waterfall.specs.Turns.{IsLead};
@@ -13,12 +14,12 @@ ghost use Rattle.nq_legal.specs.Legal.{IsWay, NormalAt};
 use crate::generalizing::{goals_above, lead_below};
 use crate::way::Way;
 use nq_bank::TermId;
-use nq_eliminate::eliminate_by_shell;
+use nq_eliminate::eliminate_move;
 use nq_history::{Hints, History};
 use nq_kernel::{MoveKind, Stop, Work};
 use nq_waterfall::{Ancestor, Lead};
 
-/// ELIM below these goals, the nearest first, where a shell's rule has a candidate in the goal.
+/// ELIM below these goals, the nearest first, where a rule has a candidate in the goal.
 fn eliminate_below(
     work: &mut Work,
     history: &History,
@@ -33,11 +34,11 @@ fn eliminate_below(
     requires above { All (λ goal. IsGoalIn history.now work.old goal.items) above.now }
     requires goal { IsGoalIn history.now work.old goal.now }
     requires normal { NormalAt work.old.bank history.now hints.now goal.now }
-    ensures legal { IfOk result (λ found. MatchOption found (HasNoneOfShells (events_at work.new.bank history.now) (terms_at work.new.bank goal.now)) (IsLead IsWay history.now hints.now work.new path.now goal.now)) }
+    ensures legal { IfOk result (λ found. MatchOption found (HasNoElimination (events_at work.new.bank history.now) (hints_at work.new.bank hints.now) (terms_at work.new.bank goal.now)) (IsLead IsWay history.now hints.now work.new path.now goal.now)) }
     ensures grows { WorkGrows history.now work.old work.new }
     ensures out { result ≡ Err Stop.OutOfSteps → work.new.counter.used ≡ work.new.counter.limit }
 {
-    match eliminate_by_shell(work, history, hints, above, goal)? {
+    match eliminate_move(work, history, hints, above, goal)? {
         Some(moved) => {
             let lead = lead_below(work, history, hints, path, goal, MoveKind::Elim, moved)?;
             Ok(Some(lead))
@@ -46,7 +47,7 @@ fn eliminate_below(
     }
 }
 
-/// ELIM, where a shell's rule has a candidate in the goal.
+/// ELIM, where a rule has a candidate in the goal.
 pub fn eliminated(
     work: &mut Work,
     history: &History,
@@ -59,7 +60,7 @@ pub fn eliminated(
     requires path_in { IsPathIn history.now work.old path.now }
     requires goal { IsGoalIn history.now work.old goal.now }
     requires normal { NormalAt work.old.bank history.now hints.now goal.now }
-    ensures legal { IfOk result (λ found. MatchOption found (HasNoneOfShells (events_at work.new.bank history.now) (terms_at work.new.bank goal.now)) (IsLead IsWay history.now hints.now work.new path.now goal.now)) }
+    ensures legal { IfOk result (λ found. MatchOption found (HasNoElimination (events_at work.new.bank history.now) (hints_at work.new.bank hints.now) (terms_at work.new.bank goal.now)) (IsLead IsWay history.now hints.now work.new path.now goal.now)) }
     ensures grows { WorkGrows history.now work.old work.new }
     ensures out { result ≡ Err Stop.OutOfSteps → work.new.counter.used ≡ work.new.counter.limit }
 {

@@ -1,7 +1,5 @@
 //! The legal mover.
 ghost use Rattle.std.specs.Prelude.{◌≡◌, All, IfOk, Err};
-ghost use Rattle.nq_bank.specs.Content.{terms_at};
-ghost use Rattle.nq_history.specs.Events.{events_at};
 ghost use Rattle.nq_kernel.specs.Growing.{WorkGrows};
 ghost use Rattle.nq_waterfall.specs.Ready.{CanMove, IsGoalIn, IsPathIn};
 ghost use Rattle.nq_waterfall.specs.Trails.{AncestorStands};
@@ -9,8 +7,6 @@ ghost use Rattle.nq_waterfall.specs.Turns.{IsTurn};
 ghost use Rattle.nq_legal.specs.Forms.{IsForm};
 ghost use Rattle.nq_legal.specs.Leaving.{IsStuck};
 ghost use Rattle.nq_legal.specs.Legal.{IsWay};
-ghost use Rattle.nq_event.specs.EventsAt.{hints_at};
-ghost use Rattle.nq_legal.specs.Candidates.{HasNoneOfFive};
 ghost use Rattle.nq_legal.specs.Turning.{turn_of};
 ghost use Rattle.nq_legal.specs.declared.form.Form.TheVariants.{Normal};
 
@@ -21,7 +17,6 @@ use crate::inducting::{Inductor, induct_hinted, induct_on};
 use crate::leaving::{Left, left_over};
 use crate::moving::move_on;
 use crate::simplifying::{simplify, simplify_below};
-use crate::stuck::is_stuck;
 use crate::way::Way;
 use nq_bank::TermId;
 use nq_history::{Hints, History};
@@ -83,31 +78,6 @@ fn lead_stuck<I: Inductor>(
     }
 }
 
-/// Leads a goal on, in which SUBST, FERT, GEN and IRR have no candidate, nor ELIM by the rule of a shell.
-fn lead_unmoved<I: Inductor>(
-    work: &mut Work,
-    inductor: &mut I,
-    history: &History,
-    hints: &Hints,
-    path: &[Ancestor],
-    goal: &[TermId],
-) -> Result<Turn<Way>, Stop>
-    requires ready { CanMove history.now hints.now work.old }
-    requires path { All (AncestorStands work.old.bank) path.now }
-    requires goal { IsGoalIn history.now work.old goal.now }
-    requires form { IsForm work.old.bank history.now hints.now path.now goal.now Normal }
-    requires none { HasNoneOfFive (events_at work.old.bank history.now) (hints_at work.old.bank hints.now) (terms_at work.old.bank goal.now) }
-    ensures turn { IfOk result (IsTurn IsWay history.now hints.now work.new path.now goal.now) }
-    ensures grows { WorkGrows history.now work.old work.new }
-    ensures out { result ≡ Err Stop.OutOfSteps → work.new.counter.used ≡ work.new.counter.limit }
-{
-    match is_stuck(&work.bank, history, hints, goal) {
-        Ok(true) => lead_stuck(work, inductor, history, hints, path, goal),
-        Ok(false) => Ok(Turn::Unknown),
-        Err(_) => Err(Stop::Memory),
-    }
-}
-
 /// Leads a goal on that is in normal form and not false, by another move than SIMP.
 fn lead_moved<I: Inductor>(
     work: &mut Work,
@@ -129,7 +99,7 @@ fn lead_moved<I: Inductor>(
     holding();
     match move_on(work, history, hints, path, goal)? {
         Some(lead) => Ok(Turn::Led(lead)),
-        None => lead_unmoved(work, inductor, history, hints, path, goal),
+        None => lead_stuck(work, inductor, history, hints, path, goal),
     }
 }
 

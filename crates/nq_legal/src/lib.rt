@@ -2,13 +2,11 @@
 //!
 //! A goal that is not in normal form is simplified, where what is left is. One that is, and to which ELIM led, is simplified too, where
 //! that changes it: else it might be led to itself by ELIM again. Any other in normal form is led on by SUBST, ELIM, FERT, GEN or IRR
-//! where it has a candidate, of ELIM one by the rule of a shell; where no move has one, it is left over by the first cause that holds, or
-//! led on by an induction. No way back is kept of an induction: where all of its goals are proved, the goal is too, and a closer is asked
-//! for its line.
+//! where it has a candidate: of ELIM one by the rule of a shell, or else one by that of an enabled axiom or lemma. Where no move has one,
+//! it is left over by the first cause that holds, or led on by an induction. No way back is kept of an induction: where all of its goals
+//! are proved, the goal is too, and a closer is asked for its line.
 //!
-//! The rules of axioms and lemmas lead no goal on by ELIM. The enabled ones have no candidate in a goal where none of their destructor
-//! calls becomes a call of the goal with other variables. Where one does, and no other move leads on, nothing is told of the goal. Nothing
-//! is told either of a goal whose simplification is not in normal form, for which no scheme of an induction is found, or of which the
+//! Nothing is told of a goal whose simplification is not in normal form, for which no scheme of an induction is found, or of which the
 //! closer finds no line.
 #![tactic(auto)]
 
@@ -37,9 +35,6 @@ mod above;
 
 // whether a goal is false or in normal form
 mod form;
-
-// whether any move has a candidate in it
-mod stuck;
 
 // why a goal is left over
 mod leaving;

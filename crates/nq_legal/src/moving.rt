@@ -12,7 +12,8 @@ ghost use Rattle.nq_waterfall.specs.Ready.{CanMove, IsGoalIn, IsPathIn};
 ghost use Rattle.nq_waterfall.specs.Trails.{AncestorStands};
 ghost use Rattle.nq_waterfall.specs.Turns.{IsLead};
 ghost use Rattle.nq_legal.specs.Legal.{AreCopies, IsLegal, IsWay, LeadsAnywhere, NormalAt};
-ghost use Rattle.nq_legal.specs.Candidates.{HasNoneLess, HasNoneOfFive, HasNoneOfFour};
+ghost use Rattle.nq_goals.specs.Moves.{HasNoCandidate};
+ghost use Rattle.nq_legal.specs.Candidates.{HasNoneLess, HasNoneOfFour};
 
 use crate::eliminating::eliminated;
 use crate::generalizing::generalized;
@@ -196,7 +197,7 @@ fn moved(
     requires goal { IsGoalIn history.now work.old goal.now }
     requires normal { NormalAt work.old.bank history.now hints.now goal.now }
     requires none { substitutions_of (terms_at work.old.bank goal.now) ≡ [] }
-    ensures legal { IfOk result (λ found. MatchOption found (HasNoneOfFive (events_at work.new.bank history.now) (hints_at work.new.bank hints.now) (terms_at work.new.bank goal.now)) (IsLead IsWay history.now hints.now work.new path.now goal.now)) }
+    ensures legal { IfOk result (λ found. MatchOption found (HasNoCandidate (events_at work.new.bank history.now) (hints_at work.new.bank hints.now) (terms_at work.new.bank goal.now)) (IsLead IsWay history.now hints.now work.new path.now goal.now)) }
     ensures grows { WorkGrows history.now work.old work.new }
     ensures out { result ≡ Err Stop.OutOfSteps → work.new.counter.used ≡ work.new.counter.limit }
 {
@@ -207,7 +208,7 @@ fn moved(
     }
 }
 
-/// SUBST, ELIM, FERT, GEN or IRR, where the goal has a candidate; of ELIM one by the rule of a shell.
+/// SUBST, ELIM, FERT, GEN or IRR, where the goal has a candidate.
 pub fn move_on(
     work: &mut Work,
     history: &History,
@@ -220,7 +221,7 @@ pub fn move_on(
     requires path_in { IsPathIn history.now work.old path.now }
     requires goal { IsGoalIn history.now work.old goal.now }
     requires normal { NormalAt work.old.bank history.now hints.now goal.now }
-    ensures legal { IfOk result (λ found. MatchOption found (HasNoneOfFive (events_at work.new.bank history.now) (hints_at work.new.bank hints.now) (terms_at work.new.bank goal.now)) (IsLead IsWay history.now hints.now work.new path.now goal.now)) }
+    ensures legal { IfOk result (λ found. MatchOption found (HasNoCandidate (events_at work.new.bank history.now) (hints_at work.new.bank hints.now) (terms_at work.new.bank goal.now)) (IsLead IsWay history.now hints.now work.new path.now goal.now)) }
     ensures grows { WorkGrows history.now work.old work.new }
     ensures out { result ≡ Err Stop.OutOfSteps → work.new.counter.used ≡ work.new.counter.limit }
 {

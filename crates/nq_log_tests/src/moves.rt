@@ -1,6 +1,8 @@
 //! The moves: goals that have a candidate of a kind, and goals that have none.
 ghost use Rattle.std.specs.Prelude.{All, IfOk, IfSome};
+ghost use Rattle.nq_bank.specs.Content.{Content};
 ghost use Rattle.nq_history.specs.Events.{events_at, HistoryStands};
+ghost use Rattle.nq_history.specs.Hints.{HintsStand};
 ghost use Rattle.nq_kernel.specs.Growing.{WorkStands, WorkGrows};
 ghost use Rattle.nq_kernel.specs.Ready.{IsReady};
 ghost use Rattle.nq_lines.specs.Lines.{IsTermIn};
@@ -10,7 +12,7 @@ use crate::axioms::history_with;
 use crate::closed::{closed, has_only};
 use crate::goals::{are_terms_in, term};
 use nq_bank::{Bank, TermId};
-use nq_eliminate::eliminate_by_shell;
+use nq_eliminate::eliminate_move;
 use nq_generalize::generalize_move;
 use nq_history::{Hints, History};
 use nq_kernel::{Log, MoveKind, Stop, Work};
@@ -20,7 +22,9 @@ use std::process::Abort;
 use std::test::Fail;
 
 /// Hints that say nothing, but whether they forbid generalizations.
-pub fn hints_with(alloc: Global, no_generalize: bool) -> Hints {
+pub fn hints_with(alloc: Global, no_generalize: bool) -> Hints
+    ensures { (bank : Content) → HintsStand bank result }
+{
     Hints {
         instances: Vec::new(alloc),
         enable: Vec::new(alloc),
@@ -44,6 +48,7 @@ fn moved(
 ) -> Result<Option<Moved>, Stop>
     requires stands { WorkStands history.now work.old }
     requires ready { IsReady (events_at work.old.bank history.now) }
+    requires hints { HintsStand work.old.bank hints.now }
     requires goal { All (IsTermIn history.now work.old) goal.now }
     ensures moved { IfOk result (λ found. IfSome found (IsMove history.now work.new goal.now)) }
     ensures grows { WorkGrows history.now work.old work.new }
@@ -54,7 +59,7 @@ fn moved(
         MoveKind::Gen => generalize_move(work, history, hints, &[], goal),
         MoveKind::Irr => irrelevant_move(work, history, hints, goal),
         MoveKind::Simp => Ok(None),
-        MoveKind::Elim => eliminate_by_shell(work, history, hints, &[], goal),
+        MoveKind::Elim => eliminate_move(work, history, hints, &[], goal),
         MoveKind::Ind => Ok(None),
     }
 }
@@ -69,6 +74,7 @@ fn led_on(
 ) -> Result<Option<(usize, Option<u64>)>, Stop>
     requires stands { WorkStands history.now work.old }
     requires ready { IsReady (events_at work.old.bank history.now) }
+    requires hints { HintsStand work.old.bank hints.now }
     requires goal { All (IsTermIn history.now work.old) goal.now }
 {
     match moved(work, history, hints, kind, goal) {

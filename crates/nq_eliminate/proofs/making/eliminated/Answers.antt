@@ -1,4 +1,4 @@
-use Rattle.std.proofs.Common.{◌≡◌, ◌∙◌, List, sym, subst}
+use Rattle.std.proofs.Common.{◌≡◌, ◌∙◌, ◌∷◌, ◌++◌, List, sym, ap, subst}
 use Rattle.std.specs.Prelude.{All, false}
 use Rattle.nq_bank.specs.declared.node.TermId.{TermId}
 use Rattle.nq_bank.specs.Content.{terms_at}
@@ -9,6 +9,7 @@ use Rattle.nq_moves.specs.Eliminated.{IsElimination}
 use Rattle.nq_moves.specs.Naming.{occurs_in_one}
 use Rattle.nq_eliminate.specs.Instances.{IsChosenOf}
 use Rattle.nq_eliminate.specs.Kept.{IsRenamedBy}
+use Rattle.nq_eliminate.specs.Literals.{joined}
 use Rattle.nq_eliminate.proofs.MakingLemmas.{at_least_two, calls_in_mid, chosen_new, known_in_mid, literals_free, serves_new, values_mid}
 use Rattle.nq_eliminate.proofs.making.eliminated.Goals as goal
 
@@ -28,7 +29,7 @@ pub renamed-requires-clause-known : goal.renamed-requires-clause-known
 renamed-requires-clause-known c =
     let old = c.args.work.now in
     let mid = c.prepare.new.work in
-    subst (All (IsTermIn c.args.history.now mid)) (sym (c.as_slice.ensures.value ∙ c.in_ok-known.ensures.all))
+    subst (All (IsTermIn c.args.history.now mid)) (sym (c.as_slice.ensures.value ∙ c.in_ok-known.ensures.all ∙ ap (λ (os : List TermId). (joined c.args.path.now ++ c.args.goal.now) ++ c.args.r.variable ∷ os) c.as_slice-others.ensures.value))
     (known_in_mid c.args.history.now old mid mid c.requires.stands c.prepare.ensures.grows (WorkGrows-refl c.args.history.now mid c.prepare.ensures.grows.stands) c.args.path.now c.args.goal.now c.requires.path c.requires.goal c.args.r c.requires.instance.chosen c.requires.instance.plain c.requires.instance.instance c.in_ok-p.p c.in_ok-p.ensures.prepared)
 
 pub renamed-requires-clause-literals : goal.renamed-requires-clause-literals
@@ -43,7 +44,7 @@ renamed-requires-clause-within c =
     let mid = c.prepare.new.work in
     λ y free.
     literals_free c.args.history.now old mid mid c.requires.stands c.prepare.ensures.grows (WorkGrows-refl c.args.history.now mid c.prepare.ensures.grows.stands) c.args.path.now c.args.goal.now c.requires.path c.requires.goal c.args.r c.requires.instance.chosen c.requires.instance.plain c.requires.instance.instance c.in_ok-p.p c.in_ok-p.ensures.prepared y
-    (subst (λ ids. occurs_in_one y (terms_at mid.bank ids) ≡ false) (c.as_slice.ensures.value ∙ c.in_ok-known.ensures.all) free)
+    (subst (λ ids. occurs_in_one y (terms_at mid.bank ids) ≡ false) (c.as_slice.ensures.value ∙ c.in_ok-known.ensures.all ∙ ap (λ (os : List TermId). (joined c.args.path.now ++ c.args.goal.now) ++ c.args.r.variable ∷ os) c.as_slice-others.ensures.value) free)
 
 pub renamed-requires-clause-calls : goal.renamed-requires-clause-calls
 renamed-requires-clause-calls c =
@@ -65,7 +66,7 @@ returns-clause-serves c =
     let new = c.renamed.new.work in
     for_ok c.renamed.result (IsRenamedBy h mid new c.as_slice.result.now c.args.r c.in_ok-p.p) (IsElimination h new c.args.goal.now)
     (λ d ren. serves_new h old mid new c.requires.stands c.prepare.ensures.grows c.renamed.ensures.grows c.args.path.now c.args.goal.now c.requires.path c.requires.goal c.args.r c.requires.instance.chosen c.requires.instance.plain c.requires.instance.instance c.in_ok-p.p c.in_ok-p.ensures.prepared d
-    (subst (λ (ids : List TermId). IsRenamedBy h mid new ids c.args.r c.in_ok-p.p d) (c.as_slice.ensures.value ∙ c.in_ok-known.ensures.all) ren)) c.renamed.ensures.renamed
+    (subst (λ (ids : List TermId). IsRenamedBy h mid new ids c.args.r c.in_ok-p.p d) (c.as_slice.ensures.value ∙ c.in_ok-known.ensures.all ∙ ap (λ (os : List TermId). (joined c.args.path.now ++ c.args.goal.now) ++ c.args.r.variable ∷ os) c.as_slice-others.ensures.value) ren)) c.renamed.ensures.renamed
 
 pub returns-clause-chosen : goal.returns-clause-chosen
 returns-clause-chosen c =
@@ -78,7 +79,7 @@ returns-clause-chosen c =
     record {
       each = λ h hints e candidate plain instance.
           chosen_new hs old mid new c.requires.stands c.prepare.ensures.grows c.renamed.ensures.grows c.args.path.now c.args.goal.now c.requires.path c.requires.goal c.args.r e plain instance c.in_ok-p.p c.in_ok-p.ensures.prepared d
-          (subst (λ (ids : List TermId). IsRenamedBy hs mid new ids c.args.r c.in_ok-p.p d) (c.as_slice.ensures.value ∙ c.in_ok-known.ensures.all) ren) h hints candidate;
+          (subst (λ (ids : List TermId). IsRenamedBy hs mid new ids c.args.r c.in_ok-p.p d) (c.as_slice.ensures.value ∙ c.in_ok-known.ensures.all ∙ ap (λ (os : List TermId). (joined c.args.path.now ++ c.args.goal.now) ++ c.args.r.variable ∷ os) c.as_slice-others.ensures.value) ren) h hints candidate;
     }) c.renamed.ensures.renamed
 
 pub returns-clause-grows : goal.returns-clause-grows

@@ -130,7 +130,7 @@ returns-clause-instance c =
     let v_two = same_term_grown h w two c.args.made.variable g02 v ∙ c.requires.made.variable.denotes in
     let hyps : List TermId = c.in_ok-hypotheses.hypotheses.items in
     let hyps_two = c.in_ok-hypotheses.ensures.over in
-    instance_made h w three c.requires.stands g03 s c.args.name c.requires.name c.requires.plain c.requires.parts c.requires.over c.args.made c.requires.made c.in_ok-calls.calls c.in_ok-hypotheses.hypotheses c.in_ok-line.line
+    instance_made h w three c.requires.stands g03 s c.args.name c.requires.name c.requires.plain c.requires.parts c.requires.over c.args.made c.requires.made c.new-others.result c.in_ok-calls.calls c.in_ok-hypotheses.hypotheses c.in_ok-line.line c.new-others.ensures.items
     (c.in_ok-calls.ensures.clause ∙ ap (λ (ids : List TermId). distinct (terms_at three.bank ids)) c.as_slice.ensures.value) c.in_ok-calls.ensures.stand
     (goal_same h two three g02.stands c.rule_line.ensures.grows hyps hyps_two ∙ hypotheses_same h w one c.requires.stands g01 shell c.requires.shell (Variable x) (term_at one.bank c.args.made.variable) (terms_at two.bank hyps) v_one c.in_ok-hypotheses.ensures.hypotheses)
     (goal_in_grown h two three g02.stands c.rule_line.ensures.grows hyps hyps_two) (line_same h w two c.requires.stands g02 shell c.requires.shell three c.in_ok-line.line (Variable x) (term_at two.bank c.args.made.variable) v_two c.in_ok-line.ensures.line)

@@ -37,8 +37,11 @@ returns-in-None-clause-legal c =
     let above = path_grown old.bank mid.bank c.eliminated.ensures.grows.bank c.args.path.now c.requires.path in
     none_then h hints new c.args.path.now c.args.goal.now c.changed.result _ _
     (λ none. record {
-      of_four = none;
-      of_shells = no_elimination h hints mid new ready c.changed.ensures.grows c.args.path.now above c.args.goal.now inside (when_none _ _ _ c.in-None.is c.in_ok-lead.ensures.legal);
+      no_substituting = none.no_substituting;
+      no_eliminating = (no_elimination h hints mid new ready c.changed.ensures.grows c.args.path.now above c.args.goal.now inside (when_none _ _ _ c.in-None.is c.in_ok-lead.ensures.legal)).none;
+      no_fertilizing = none.no_fertilizing;
+      no_generalizing = none.no_generalizing;
+      no_dropping = none.no_dropping;
     }) c.changed.ensures.legal
 
 pub returns-in-None-clause-grows : goal.returns-in-None-clause-grows

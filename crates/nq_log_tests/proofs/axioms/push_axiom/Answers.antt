@@ -1,7 +1,7 @@
 use Rattle.std.proofs.Common.{sym, subst}
 use Rattle.nq_logic.specs.Names.{is_in_use}
 use Rattle.nq_bank.specs.Content.{text_at, term_at}
-use Rattle.nq_history.specs.Events.{events_at, past_ground}
+use Rattle.nq_history.specs.Events.{events_at}
 use Rattle.nq_kernel.specs.Ready.{IsReady}
 use Rattle.nq_log_tests.proofs.ReadyLemmas.{axiom_ready, new_name, on_ok₂}
 use Rattle.nq_log_tests.proofs.axioms.push_axiom.Goals as goal

@@ -1,0 +1,7 @@
+use Rattle.nq_eliminate.proofs.supposing.implication_law.Goals as goal
+
+pub returns-in-Ok-clause-grows : goal.returns-in-Ok-clause-grows
+returns-in-Ok-clause-grows c = c.implication_opens.ensures.grows.grows
+
+pub returns-in-Err-clause-grows : goal.returns-in-Err-clause-grows
+returns-in-Err-clause-grows c = c.implication_opens.ensures.grows.grows
