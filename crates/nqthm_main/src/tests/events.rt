@@ -223,3 +223,31 @@ fn each_event_is_told_by_its_log(rt: HostRuntime) -> Result<(), Fail> {
     assert_eq!(rt; checked.status, 0);
     Ok(())
 }
+
+// The tables' steps: the denied hypothesis stands in the goal already; the destructor's call becomes V1, and X the rule's left side of V1.
+#[test]
+fn a_rule_of_an_axiom_eliminates(rt: HostRuntime) -> Result<(), Fail> {
+    let declared =
+        b"(DCL D (X))(DCL C (Y))(DCL P (X))(DCL H (X))(ADD-AXIOM RULE (ELIM) (IMPLIES (P X) (EQUAL (C (D X)) X)))".as_slice();
+    for (lemma, answer) in [
+        (
+            b"(IMPLIES (P X) (H (D X)))".as_slice(),
+            b"1. SIMP from 0: (NOT (P X)) OR (H (D X))\n   2. ELIM from 1: (NOT (P (C V1))) OR (H V1)\n   Failed, no induction.\n".as_slice(),
+        ),
+        // no destructor is called
+        (
+            b"(IMPLIES (P X) (H (C X)))",
+            b"1. SIMP from 0: (NOT (P X)) OR (H (C X))\n   Failed, no induction.\n",
+        ),
+        // it is called on no variable
+        (
+            b"(IMPLIES (P X) (H (D (C X))))",
+            b"1. SIMP from 0: (NOT (P X)) OR (H (D (C X)))\n   Failed, no induction.\n",
+        ),
+    ] {
+        let text = joined(rt.alloc(), &[declared, b"(PROVE-LEMMA L NIL ", lemma, b")"])?;
+        let answered = answer_to(rt.alloc(), Given::run(text.as_slice()))?;
+        assert!(rt; has_part(answered.out.as_slice(), answer));
+    }
+    Ok(())
+}

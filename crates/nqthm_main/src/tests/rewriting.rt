@@ -3,8 +3,9 @@ use super::{Given, answer_to, joined};
 use std::alloc::{AllocError, Global};
 use std::test::Fail;
 
-/// The declared functions of the lemmas.
-const DECLARED: &[u8] = b"(DCL H (X))(DCL K (X))(DCL G (X Y))(DCL P (X Y))";
+/// The functions of the lemmas.
+const DECLARED: &[u8] =
+    b"(DCL H (X))(DEFN PLISTP (X) (IF (LISTP X) (PLISTP (CDR X)) (EQUAL X NIL)))(DEFN REVERSE (X) (IF (LISTP X) (APPEND (REVERSE (CDR X)) (CONS (CAR X) NIL)) NIL))(DEFN LENGTH (X) (IF (LISTP X) (ADD1 (LENGTH (CDR X))) 0))";
 
 /// Whether a lemma with these hints is proved behind these events, where none is refused.
 fn is_shown(
@@ -42,14 +43,19 @@ fn what_is_known_of_a_term_takes_its_place(rt: HostRuntime) -> Result<(), Fail> 
         // a call on values has its value
         (
             b"".as_slice(),
-            b"(IMPLIES (H 5) (H (PLUS 2 3)))".as_slice(),
+            b"(IMPLIES (H '(3 2 1)) (H (REVERSE '(1 2 3))))".as_slice(),
             b"".as_slice(),
             true,
         ),
-        (b"", b"(IMPLIES (H 6) (H (PLUS 2 3)))", b"", false),
+        (
+            b"",
+            b"(IMPLIES (H '(1 2 3)) (H (REVERSE '(1 2 3))))",
+            b"",
+            false,
+        ),
         // a call is known by the kind of its values
-        (b"", b"(IMPLIES (H F) (H (LISTP (PLUS X Y))))", b"", true),
-        (b"", b"(IMPLIES (H T) (H (LISTP (PLUS X Y))))", b"", false),
+        (b"", b"(IMPLIES (H F) (H (LISTP (LENGTH X))))", b"", true),
+        (b"", b"(IMPLIES (H T) (H (LISTP (LENGTH X))))", b"", false),
         // a test that is assumed chooses
         (
             b"",
@@ -66,19 +72,19 @@ fn what_is_known_of_a_term_takes_its_place(rt: HostRuntime) -> Result<(), Fail> 
         // an equation that is assumed rewrites, whichever way round it stands
         (
             b"",
-            b"(IMPLIES (AND (EQUAL (K X) 2) (H 2)) (H (K X)))",
+            b"(IMPLIES (AND (EQUAL (LENGTH X) 2) (H 2)) (H (LENGTH X)))",
             b"",
             true,
         ),
         (
             b"",
-            b"(IMPLIES (AND (EQUAL 2 (K X)) (H 2)) (H (K X)))",
+            b"(IMPLIES (AND (EQUAL 2 (LENGTH X)) (H 2)) (H (LENGTH X)))",
             b"",
             true,
         ),
         (
             b"",
-            b"(IMPLIES (AND (EQUAL (K X) 2) (H 3)) (H (K X)))",
+            b"(IMPLIES (AND (EQUAL (LENGTH X) 2) (H 3)) (H (LENGTH X)))",
             b"",
             false,
         ),
@@ -110,79 +116,79 @@ fn rules_rewrite_where_they_may(rt: HostRuntime) -> Result<(), Fail> {
     for (events, lemma, hints, proved) in [
         // a lemma is a rule where its class says so
         (
-            b"(ADD-AXIOM RULE (REWRITE) (EQUAL (K (K X)) (K X)))".as_slice(),
-            b"(IMPLIES (H (K X)) (H (K (K (K X)))))".as_slice(),
+            b"(ADD-AXIOM RULE (REWRITE) (EQUAL (APPEND (APPEND X Y) Z) (APPEND X (APPEND Y Z))))".as_slice(),
+            b"(IMPLIES (H (APPEND X (APPEND Y Z))) (H (APPEND (APPEND X Y) Z)))".as_slice(),
             b"".as_slice(),
             true,
         ),
         (
-            b"(ADD-AXIOM RULE NIL (EQUAL (K (K X)) (K X)))",
-            b"(IMPLIES (H (K X)) (H (K (K (K X)))))",
+            b"(ADD-AXIOM RULE NIL (EQUAL (APPEND (APPEND X Y) Z) (APPEND X (APPEND Y Z))))",
+            b"(IMPLIES (H (APPEND X (APPEND Y Z))) (H (APPEND (APPEND X Y) Z)))",
             b"",
             false,
         ),
-        // a hypothesis is relieved, or the rule does not serve
+        // a hypothesis is relieved by what is assumed or by another rule, or the rule does not serve
         (
-            b"(ADD-AXIOM RULE (REWRITE) (IMPLIES (LISTP X) (EQUAL (K X) (CAR X))))",
-            b"(IMPLIES (H X) (H (K (CONS X Y))))",
+            b"(ADD-AXIOM RULE (REWRITE) (IMPLIES (PLISTP X) (EQUAL (APPEND X NIL) X)))",
+            b"(IMPLIES (AND (PLISTP X) (H X)) (H (APPEND X NIL)))",
             b"",
             true,
         ),
         (
-            b"(ADD-AXIOM RULE (REWRITE) (IMPLIES (LISTP X) (EQUAL (K X) (CAR X))))",
-            b"(IMPLIES (H (CAR X)) (H (K X)))",
+            b"(ADD-AXIOM RULE (REWRITE) (IMPLIES (PLISTP X) (EQUAL (APPEND X NIL) X)))(ADD-AXIOM PLISTP-REVERSE (REWRITE) (PLISTP (REVERSE X)))",
+            b"(IMPLIES (H (REVERSE X)) (H (APPEND (REVERSE X) NIL)))",
+            b"",
+            true,
+        ),
+        (
+            b"(ADD-AXIOM RULE (REWRITE) (IMPLIES (PLISTP X) (EQUAL (APPEND X NIL) X)))",
+            b"(IMPLIES (H X) (H (APPEND X NIL)))",
             b"",
             false,
         ),
-        // a variable that the rule leaves free is that of an assumption
+        // a variable that the left side lacks is that of an assumption
         (
-            b"(ADD-AXIOM RULE (REWRITE) (IMPLIES (P X Y) (H Y)))",
-            b"(IMPLIES (P A B) (H B))",
+            b"(DCL SUBSETP (X Y))(ADD-AXIOM RULE (REWRITE) (IMPLIES (AND (MEMBER E X) (SUBSETP X Y)) (MEMBER E Y)))",
+            b"(IMPLIES (AND (MEMBER E A) (SUBSETP A B) (H 1)) (H (IF (MEMBER E B) 1 2)))",
             b"",
             true,
         ),
         (
-            b"(ADD-AXIOM RULE (REWRITE) (IMPLIES (P X Y) (H Y)))",
-            b"(IMPLIES (AND (P A B) (K B)) (H (IF (K B) B A)))",
-            b"",
-            true,
-        ),
-        (
-            b"(ADD-AXIOM RULE (REWRITE) (IMPLIES (P X Y) (H Y)))",
-            b"(IMPLIES (AND (P A B) (K B)) (H (IF (K B) A B)))",
+            b"(DCL SUBSETP (X Y))(ADD-AXIOM RULE (REWRITE) (IMPLIES (AND (MEMBER E X) (SUBSETP X Y)) (MEMBER E Y)))",
+            b"(IMPLIES (AND (MEMBER E A) (SUBSETP B A) (H 1)) (H (IF (MEMBER E B) 1 2)))",
             b"",
             false,
         ),
         // a rule that permutes goes one way
         (
-            b"(ADD-AXIOM RULE (REWRITE) (EQUAL (G X Y) (G Y X)))",
-            b"(EQUAL (H (G A B)) (H (G B A)))",
+            b"(ADD-AXIOM RULE (REWRITE) (EQUAL (PLUS X Y) (PLUS Y X)))",
+            b"(EQUAL (H (PLUS A B)) (H (PLUS B A)))",
             b"",
             true,
         ),
         (
-            b"(ADD-AXIOM RULE (REWRITE) (EQUAL (G X Y) (G Y X)))",
-            b"(EQUAL (H (G A B)) (H (G A A)))",
+            b"(ADD-AXIOM RULE (REWRITE) (EQUAL (PLUS X Y) (PLUS Y X)))",
+            b"(EQUAL (H (PLUS A B)) (H (PLUS A A)))",
             b"",
             false,
         ),
         // a hint or an event disables a rule
         (
-            b"(ADD-AXIOM RULE (REWRITE) (EQUAL (K (K X)) (K X)))",
-            b"(IMPLIES (H (K X)) (H (K (K (K X)))))",
+            b"(ADD-AXIOM RULE (REWRITE) (EQUAL (APPEND (APPEND X Y) Z) (APPEND X (APPEND Y Z))))",
+            b"(IMPLIES (H (APPEND X (APPEND Y Z))) (H (APPEND (APPEND X Y) Z)))",
             b"(DISABLE RULE)",
             false,
         ),
         (
-            b"(ADD-AXIOM RULE (REWRITE) (EQUAL (K (K X)) (K X)))(DISABLE RULE)",
-            b"(IMPLIES (H (K X)) (H (K (K (K X)))))",
+            b"(ADD-AXIOM RULE (REWRITE) (EQUAL (APPEND (APPEND X Y) Z) (APPEND X (APPEND Y Z))))(DISABLE RULE)",
+            b"(IMPLIES (H (APPEND X (APPEND Y Z))) (H (APPEND (APPEND X Y) Z)))",
             b"",
             false,
         ),
         // a hint enables it again
         (
-            b"(ADD-AXIOM RULE (REWRITE) (EQUAL (K (K X)) (K X)))(DISABLE RULE)",
-            b"(IMPLIES (H (K X)) (H (K (K (K X)))))",
+            b"(ADD-AXIOM RULE (REWRITE) (EQUAL (APPEND (APPEND X Y) Z) (APPEND X (APPEND Y Z))))(DISABLE RULE)",
+            b"(IMPLIES (H (APPEND X (APPEND Y Z))) (H (APPEND (APPEND X Y) Z)))",
             b"(ENABLE RULE)",
             true,
         ),
@@ -225,14 +231,14 @@ fn calls_are_opened_where_that_serves(rt: HostRuntime) -> Result<(), Fail> {
         ),
         // a hint asks for an opening that would not be kept
         (
-            b"(DEFN R (X) (IF (LISTP X) (G (CAR X) (R (CDR X))) 0))(ADD-AXIOM RULE (REWRITE) (H (G X Y)))",
-            b"(IMPLIES (LISTP X) (H (R X)))",
-            b"(EXPAND (R X))",
+            b"(ADD-AXIOM RULE (REWRITE) (H (ADD1 X)))",
+            b"(IMPLIES (LISTP X) (H (LENGTH X)))",
+            b"(EXPAND (LENGTH X))",
             true,
         ),
         (
-            b"(DEFN R (X) (IF (LISTP X) (G (CAR X) (R (CDR X))) 0))(ADD-AXIOM RULE (REWRITE) (H (G X Y)))",
-            b"(IMPLIES (LISTP X) (H (R X)))",
+            b"(ADD-AXIOM RULE (REWRITE) (H (ADD1 X)))",
+            b"(IMPLIES (LISTP X) (H (LENGTH X)))",
             b"",
             false,
         ),
