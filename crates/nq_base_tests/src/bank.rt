@@ -134,7 +134,7 @@ fn a_name_that_is_given_back_is_given_out_again(rt: HostRuntime) -> Result<(), F
     Ok(())
 }
 
-/// The id of a pair of numerals below 200, by its number: two numbers have other parts. It is 0 where there is none.
+/// The id of a pair of numerals below 200, by its number: different numbers have different parts. It is 0 where there is none.
 fn pair_number(bank: &mut Bank, number: u64) -> u64
     ensures { Grows bank.old bank.new }
 {

@@ -130,21 +130,7 @@ fn function_of(byte: u8) -> Option<Sym>
         b'@' => Some(ground::LISTP),
         b'S' => Some(ground::ASSOC),
         b'd' => Some(ground::CDR),
-        b'%' => Some(ground::NLISTP),
         b'^' => Some(ground::APPEND),
-        b'e' => Some(ground::MEMBER),
-        b'n' => Some(ground::NUMBERP),
-        b'a' => Some(ground::LITATOM),
-        b't' => Some(ground::TRUEP),
-        b'f' => Some(ground::FALSEP),
-        b'c' => Some(ground::COUNT),
-        b'l' => Some(ground::LESSP),
-        b'z' => Some(ground::ZEROP),
-        b'x' => Some(ground::FIX),
-        b'p' => Some(ground::PACK),
-        b'm' => Some(ground::MAX),
-        b'o' => Some(ground::ORD_LESSP),
-        b'g' => Some(ground::NEGATIVE_GUTS),
         _ => None,
     }
 }
@@ -152,10 +138,8 @@ fn function_of(byte: u8) -> Option<Sym>
 /// How many arguments the function has that a byte stands for.
 fn count_of(byte: u8) -> usize {
     match byte {
-        b'!' | b'$' | b'+' | b'-' | b'@' | b'%' | b'd' => 1,
-        b'n' | b'a' | b't' | b'f' | b'c' | b'z' | b'x' | b'p' | b'g' => 1,
-        b'&' | b'|' | b'>' | b'=' | b'~' | b'.' | b'*' | b'S' => 2,
-        b'^' | b'e' | b'l' | b'm' | b'o' => 2,
+        b'!' | b'$' | b'+' | b'-' | b'@' | b'd' => 1,
+        b'&' | b'|' | b'>' | b'=' | b'~' | b'.' | b'*' | b'^' | b'S' => 2,
         b'?' => 3,
         _ => 0,
     }

@@ -22,7 +22,7 @@ use std::process::Abort;
 use std::test::Fail;
 
 /// Hints that say nothing, but whether they forbid generalizations.
-pub fn hints_with(alloc: Global, no_generalize: bool) -> Hints
+fn hints_with(alloc: Global, no_generalize: bool) -> Hints
     ensures { (bank : Content) → HintsStand bank result }
 {
     Hints {
@@ -225,7 +225,7 @@ fn groups_without_recursion_are_irrelevant(rt: HostRuntime) -> Result<(), Fail> 
     Ok(())
 }
 
-// Each row is a goal, and to how many goals it is led: one for each hypothesis of the rule, and one more.
+// Each row is a goal, and to how many goals it is led: one for the rule's hypothesis, and one more.
 #[test]
 fn eliminations_are_of_accessors_on_variables(rt: HostRuntime) -> Result<(), Fail> {
     for (literals, count) in [

@@ -224,7 +224,7 @@ fn each_event_is_told_by_its_log(rt: HostRuntime) -> Result<(), Fail> {
     Ok(())
 }
 
-// The tables' steps: the denied hypothesis stands in the goal already; the destructor's call becomes V1, and X the rule's left side of V1.
+// The three steps of an ELIM: the denied hypothesis stands in the goal already; the destructor's call becomes V1, and X the rule's left side of V1.
 #[test]
 fn a_rule_of_an_axiom_eliminates(rt: HostRuntime) -> Result<(), Fail> {
     let declared =

@@ -114,7 +114,7 @@ fn what_is_known_of_a_term_takes_its_place(rt: HostRuntime) -> Result<(), Fail> 
 #[test]
 fn rules_rewrite_where_they_may(rt: HostRuntime) -> Result<(), Fail> {
     for (events, lemma, hints, proved) in [
-        // a lemma is a rule where its class says so
+        // an axiom is a rule where its class says so
         (
             b"(ADD-AXIOM RULE (REWRITE) (EQUAL (APPEND (APPEND X Y) Z) (APPEND X (APPEND Y Z))))".as_slice(),
             b"(IMPLIES (H (APPEND X (APPEND Y Z))) (H (APPEND (APPEND X Y) Z)))".as_slice(),
