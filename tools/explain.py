@@ -14,7 +14,7 @@ import sys
 from pathlib import Path
 
 CONSTANTS = ("T", "F", "NIL")
-FAILED = ("Failed, ", "Out of steps.", "Refused 9 ")
+FAILED = ("Failed, ", "Out of steps.")
 LIMIT = 3
 
 

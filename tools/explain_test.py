@@ -27,10 +27,10 @@ ACCEPTED = """1. DEFN PLISTP
 LACKS_KIND = (
     LISTS + "(PROVE-LEMMA REVERSE-NIL NIL (EQUAL (APPEND (REVERSE X) NIL) (REVERSE X)))",
     ACCEPTED + """4. PROVE-LEMMA REVERSE-NIL
-   Refused 9 NotYet PROVE-LEMMA.
-Forms 4, accepted 3, refused 1, failed 0, skipped 0.
+   Out of steps.
+Forms 4, accepted 3, refused 0, failed 1, skipped 0.
 """,
-    """REVERSE-NIL: Refused 9 NotYet PROVE-LEMMA.
+    """REVERSE-NIL: Out of steps.
   goal 1 of 1 left over:
     (EQUAL (APPEND (REVERSE X) NIL) (REVERSE X))
   APPEND-RIGHT-ID fits (APPEND (REVERSE X) NIL), and waits for (PLISTP (REVERSE X))

@@ -27,7 +27,7 @@ use Rattle.nq_events.specs.Effects.{defined, history_after}
 use Rattle.nq_events.proofs.EventTerms.{events_have_terms}
 use Rattle.nq_events.proofs.AllowedEvents.{events_are_allowed, plain_definitions}
 use Rattle.nq_answers.specs.Goals.{goal_text}
-use Rattle.nq_answers.specs.Steps.{Answers, AnswersUnless, IsDefined, IsOutcome, IsRecursionTried, IsProvedByMoves, IsTried, by_tautology, by_evaluation, by_instance, by_falsity, by_want, by_search, Runs, after, after_event, first_answer, is_taken, measure_by, not_yet, refusal_of, refused, undone, untaken}
+use Rattle.nq_answers.specs.Steps.{Answers, AnswersUnless, IsDefined, IsOutcome, IsRecursionTried, IsProvedByMoves, IsTried, by_tautology, by_evaluation, by_instance, by_falsity, by_want, by_search, Runs, after, after_event, first_answer, is_taken, measure_by, refusal_of, refused, undone, untaken}
 use Rattle.nq_answers.specs.Claims.{claims_of, event_claims}
 use Rattle.nq_answers.specs.Derived.{EventsHold}
 use Rattle.nq_answers.specs.Laws.{RunsAreDerived}
@@ -112,10 +112,9 @@ module _ (limit : ℕ) (h : History) (sound : IsSound h) (form : Form) where
       proved : (quick : Quick) → answer ≡ Proved quick → Derivable h (holds t) → HoldsAfter h e answer
       proved quick so shown = answered e answer (Proved quick) so (claimed shown)
 
-      found : IsProvedByMoves h hints t answer ⊎ (((answer ≡ OutOfSteps) × IsUsedUp limit h) ⊎ (answer ≡ not_yet form)) → HoldsAfter h e answer
+      found : IsProvedByMoves h hints t answer ⊎ ((answer ≡ OutOfSteps) × IsUsedUp limit h) → HoldsAfter h e answer
       found (inl moved) = answered e answer (ProvedFrom (goal_text (first_goal h hints t)) moved.steps) moved.answer_is (claimed moved.shown)
-      found (inr (inl spent)) = answered e answer OutOfSteps spent.0 (tt, sound)
-      found (inr (inr so)) = answered e answer (not_yet form) so (tt, sound)
+      found (inr spent) = answered e answer OutOfSteps spent.0 (tt, sound)
 
       by_way : IsTried limit h form hints t answer → HoldsAfter h e answer
       by_way (by_tautology small so) = proved Taut so (tautology_derivable h t over small)

@@ -1,5 +1,5 @@
 -- One step of a run: a form, its report, and the history after it.
-use Rattle.std.specs.Prelude.{◌≡◌, ◌⊎◌, ◌-◌, ℕ, length, Bool, true, false, List, [], ◌∷◌, slice_get, Option, Some, None, codes, if◌then◌else◌}
+use Rattle.std.specs.Prelude.{◌≡◌, ◌⊎◌, ◌-◌, ℕ, length, Bool, true, false, List, [], ◌∷◌, slice_get, Option, Some, None, if◌then◌else◌}
 use Rattle.nq_logic.specs.Terms.{Name, Term}
 use Rattle.nq_logic.specs.Formulas.{holds}
 use Rattle.nq_logic.specs.Histories.{History, Definition}
@@ -23,7 +23,6 @@ use Rattle.nq_goals.specs.Spent.{IsFalse}
 use Rattle.nq_comment.specs.Reports.{Answer, Accepted, AcceptedBy, Unmeasured, Undone, Skipped, Proved, ProvedFrom, Failed, OutOfSteps, Refused, Taut, Eval, Inst, Report, ShownStep, Trial}
 use Rattle.nq_comment.specs.declared.step.Cause.{Cause}
 use Rattle.nq_comment.specs.declared.step.Cause.TheVariants.{False}
-use Rattle.nq_comment.specs.Text.{shown_word}
 use Rattle.nq_answers.specs.Headers.{name_of, word_of}
 use Rattle.nq_answers.specs.Goals.{goal_text}
 use Rattle.nq_answers.specs.Measuring.{AreTrials}
@@ -42,10 +41,6 @@ refusal_answer refusal = Refused (code_of refusal) (words_of refusal)
 abbrev pub refused : Option Refusal → Option Answer
 refused (Some refusal) = Some (refusal_answer refusal)
 refused None = None
-
--- For now, the answer to a form that asks for what isn't built: 9, with its word.
-abbrev pub not_yet : Form → Answer
-not_yet form = Refused 9 (codes "NotYet" ∷ shown_word (word_of form) ∷ [])
 
 -- why an event that was read isn't taken or tried: its own refusals
 abbrev pub untaken : History → Event → Option Answer
@@ -92,11 +87,11 @@ pub record IsProvedByMoves (h : History) (hints : Hints) (t : Term) (answer : An
   pub answer_is : answer ≡ ProvedFrom (goal_text (first_goal h hints t)) steps
 
 -- The lemma is in no fragment and its first goal is not false. It is proved by moves; or work that began with this limit and no
--- step used has used them all; or, for now, it is not proved at all.
-pub record IsSearched (limit : ℕ) (h : History) (form : Form) (hints : Hints) (t : Term) (answer : Answer) : Type 0 where
+-- step used has used them all.
+pub record IsSearched (limit : ℕ) (h : History) (hints : Hints) (t : Term) (answer : Answer) : Type 0 where
   pub no_fragment : IsInNoFragment h t
   pub not_false : IsFalse h (first_goal h hints t) → ⊥
-  pub found : IsProvedByMoves h hints t answer ⊎ (((answer ≡ OutOfSteps) × IsUsedUp limit h) ⊎ (answer ≡ not_yet form))
+  pub found : IsProvedByMoves h hints t answer ⊎ ((answer ≡ OutOfSteps) × IsUsedUp limit h)
 
 -- in no fragment, and each literal of its first goal is ground and has the value F
 pub record IsFalsified (h : History) (hints : Hints) (t : Term) (answer : Answer) : Type 0 where
@@ -121,14 +116,14 @@ pub record IsEvaluated (h : History) (t : Term) (answer : Answer) : Type 0 where
   pub answer_is : answer ≡ Proved Eval
 
 -- A lemma is proved by the first fragment that holds it, whatever its hints are. Where none does, it fails if its first goal is
--- false. Else it may fail with the tree of a failure, and is searched for.
+-- false. Else it fails with the tree of a failure, or is searched for: it is proved by moves then, or out of steps.
 pub data IsTried (limit : ℕ) (h : History) (form : Form) (hints : Hints) (t : Term) (answer : Answer) : Type 0 where
   by_tautology : IsSmallTautology t → answer ≡ Proved Taut → IsTried limit h form hints t answer
   by_evaluation : IsEvaluated h t answer → IsTried limit h form hints t answer
   by_instance : IsFirstByInstance h t → answer ≡ Proved Inst → IsTried limit h form hints t answer
   by_falsity : IsFalsified h hints t answer → IsTried limit h form hints t answer
   by_want : IsGivenUp h hints t answer → IsTried limit h form hints t answer
-  by_search : IsSearched limit h form hints t answer → IsTried limit h form hints t answer
+  by_search : IsSearched limit h hints t answer → IsTried limit h form hints t answer
 
 -- how many events an undo of this name takes away: that event and all later ones
 abbrev pub undone : History → Name → ℕ
@@ -150,7 +145,7 @@ abbrev pub AnswersUnless : ℕ → Option Answer → History → Form → Event 
 AnswersUnless limit (Some refusal) h form event answer = answer ≡ refusal
 AnswersUnless limit None h form event answer = IsOutcome limit h form event answer
 
--- the answers that a form may get: its first refusal exactly where one applies, and 9 only where none does
+-- the answers that a form may get: its first refusal exactly where one applies, and else one that its event may get
 abbrev pub Answers : ℕ → History → Form → Answer → Type 0
 Answers limit h form answer = AnswersUnless limit (refusal_of h form) h form (event_of h form) answer
 

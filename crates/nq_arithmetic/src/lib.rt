@@ -36,6 +36,7 @@ mod triggers;
 // the facts about a goal
 mod assumptions;
 mod gathering;
+mod rounds;
 mod told;
 
 // the line of a goal

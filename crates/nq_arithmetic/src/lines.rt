@@ -33,16 +33,45 @@ fn uncounted_line(work: &mut Work, history: &History, law: ArithmeticLaw) -> Res
     }
 }
 
-/// Adds the line of a law.
-fn law_line(work: &mut Work, history: &History, law: ArithmeticLaw) -> Result<u64, Stop>
+/// The key under which the line of a law is kept.
+fn key_of(law: ArithmeticLaw) -> u64 {
+    match law {
+        ArithmeticLaw::Plain(plain) => (plain as u64).wrapping_add(0x100),
+        ArithmeticLaw::Inductive(inductive) => (inductive as u64).wrapping_add(0x200),
+        ArithmeticLaw::Division(division) => (division as u64).wrapping_add(0x300),
+        ArithmeticLaw::FirstIsSmaller => 0x400,
+        ArithmeticLaw::RestIsSmaller => 0x401,
+        ArithmeticLaw::ImplicationOpens => 0x402,
+        ArithmeticLaw::PairHolds => 0x403,
+    }
+}
+
+/// Adds the line of a law, and keeps it.
+fn kept_line(work: &mut Work, history: &History, law: ArithmeticLaw) -> Result<u64, Stop>
     requires stands { WorkStands history.now work.old }
     ensures line { IfOk result (λ n. LineStands work.new n) }
     ensures grows { WorkGrows history.now work.old work.new }
     ensures memory { result ≡ Err Stop.OutOfSteps → ⊥ }
 {
     match uncounted_line(work, history, law) {
-        Ok(line) => Ok(line),
+        Ok(line) => {
+            work.keep(key_of(law), line);
+            Ok(line)
+        }
         Err(_) => Err(Stop::Memory),
+    }
+}
+
+/// The line of a law: the one that is kept, or else a new one.
+fn law_line(work: &mut Work, history: &History, law: ArithmeticLaw) -> Result<u64, Stop>
+    requires stands { WorkStands history.now work.old }
+    ensures line { IfOk result (λ n. LineStands work.new n) }
+    ensures grows { WorkGrows history.now work.old work.new }
+    ensures memory { result ≡ Err Stop.OutOfSteps → ⊥ }
+{
+    match work.kept(key_of(law)) {
+        Some(line) => Ok(line),
+        None => kept_line(work, history, law),
     }
 }
 

@@ -3,6 +3,7 @@ use nq_bank::TermId;
 use nq_history::{Hints, History};
 use nq_kernel::{Stop, Work};
 use nq_legal::Closer;
+use nq_rule_table::Rules;
 use nq_search::{Plan, seek};
 use nq_tactic::Waterfall;
 
@@ -16,8 +17,11 @@ const SHARE: u64 = 5;
 const TURNS: u32 = 10;
 
 /// Closes goals by the free search. A search takes no more than a part of the steps that are left.
-#[derive(Clone, Copy, Debug)]
-pub struct SearchCloser;
+#[derive(Clone, Copy)]
+pub struct SearchCloser<'a> {
+    /// The rules of the history.
+    pub rules: &'a Rules,
+}
 
 /// The plan of a search with a part of the steps that are left.
 fn plan_of(work: &Work) -> Plan {
@@ -35,7 +39,7 @@ fn plan_of(work: &Work) -> Plan {
     }
 }
 
-impl Closer for SearchCloser {
+impl<'a> Closer for SearchCloser<'a> {
     fn close(
         &mut self,
         work: &mut Work,
@@ -44,7 +48,7 @@ impl Closer for SearchCloser {
         goal: &[TermId],
     ) -> Result<Option<u64>, Stop> {
         let plan = plan_of(work);
-        let mut tactic = Waterfall::new(work.bank.alloc(), SHARE);
+        let mut tactic = Waterfall::new(work.bank.alloc(), self.rules, SHARE);
         let found = seek(work, &mut tactic, history, hints, plan, goal)?;
         Ok(found)
     }

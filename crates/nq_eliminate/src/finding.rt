@@ -2,7 +2,7 @@
 //!
 //! A destructor call of a rule is a call of distinct variables that stands in the left side of its conclusion, as `(QUOTIENT X Y)` in
 //! `(EQUAL (PLUS (REMAINDER X Y) (TIMES Y (QUOTIENT X Y))) X)`. The rule has a candidate where one of its destructor calls becomes a call
-//! of the goal, as `(QUOTIENT A B)`, with a variable for each of its variables: the eliminated one must become another than the others
+//! of the goal, as `(QUOTIENT A B)`, with a variable for each of its variables, the eliminated one among them: it must become another than the others
 //! do, and no two destructor calls may become one. The variables that the call does not have can be new ones, so that they do no harm.
 ghost use Rattle.std.specs.Prelude.{◌≡◌, ◌∷◌, [], ◌&&◌, All, IfOk, MatchOption, true, map};
 ghost use Rattle.std.specs.Option.{option_map};

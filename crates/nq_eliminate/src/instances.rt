@@ -10,7 +10,7 @@ pub struct Instance {
     pub variable: TermId,
     /// The other variables.
     pub others: Vec<TermId>,
-    /// What it is made of.
+    /// What the variable is made of.
     pub whole: TermId,
     /// The destructor calls.
     pub calls: Vec<TermId>,

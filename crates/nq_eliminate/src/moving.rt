@@ -153,7 +153,7 @@ pub fn eliminate_by_rule(
     }
 }
 
-/// ELIM by a rule of a shell, of an axiom or of a lemma. It is none exactly where no rule has a candidate in the goal, and then uses no
+/// ELIM by a rule of a shell, of an axiom or of a lemma. It is none exactly where no enabled rule has a candidate in the goal, and then uses no
 /// steps. The path has the earlier goals, the nearest first.
 pub fn eliminate_move(
     work: &mut Work,

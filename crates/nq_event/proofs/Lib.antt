@@ -8,6 +8,7 @@ pub mod OrderLemmas
 pub mod HintSumLemmas
 pub mod DefinitionLemmas
 pub mod NumberedLemmas
+pub mod UntriedLemmas
 pub mod ShapeLemmas
 pub mod HintLoopLemmas
 pub mod LargeLemmas

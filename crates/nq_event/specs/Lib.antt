@@ -14,6 +14,7 @@ pub mod Definitions
 pub mod Stated
 pub mod HintSums
 pub mod NameCounts
+pub mod Untried
 pub mod Parsed
 -- Laws.
 pub mod MadeNameLaw

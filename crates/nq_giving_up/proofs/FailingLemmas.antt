@@ -25,7 +25,7 @@ use Rattle.nq_comment.specs.ReportViews.{steps_of}
 use Rattle.nq_goals.specs.Hints.{first_goal}
 use Rattle.nq_answers.specs.Shown.{ShowsTree}
 use Rattle.nq_giving_up.specs.declared.giving_up.Failing.{Failing}
-use Rattle.nq_giving_up.specs.declared.giving_up.Failing.TheVariants.{Failed, OutOfSteps, Unknown}
+use Rattle.nq_giving_up.specs.declared.giving_up.Failing.TheVariants.{Failed, OutOfSteps}
 use Rattle.nq_giving_up.specs.Failing.{IsFailing, TellsOf}
 
 module _ (steps : ℕ) (history : List Entry) (hints : Hints) (goal : TermId) (begun middle later : Work) (stands : HistoryStands begun.bank history) (hints_stand : HintsStand begun.bank hints) (first_grows : WorkGrows history begun middle) (then_grows : WorkGrows history middle later) where
@@ -57,4 +57,3 @@ module _ (steps : ℕ) (history : List Entry) (hints : Hints) (goal : TermId) (b
         grows = whole;
         all_used = tells ∙ whole.counter.limit ∙ limit;
       }
-  failing_told ids Unknown empty unused limit stand are tells = tt

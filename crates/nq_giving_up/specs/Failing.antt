@@ -1,5 +1,5 @@
 -- What is told of a lemma that no search proved.
-use Rattle.std.specs.Prelude.{◌≡◌, ℕ, List, ⊤}
+use Rattle.std.specs.Prelude.{◌≡◌, ℕ, List}
 use Rattle.nq_logic.specs.Terms.{Term}
 use Rattle.nq_logic.specs.Histories.{History}
 use Rattle.nq_bank.specs.declared.node.TermId.{TermId}
@@ -16,19 +16,17 @@ use Rattle.nq_answers.specs.Shown.{ShowsTree}
 use Rattle.nq_answers.specs.Spending.{IsUsedUp}
 use Rattle.nq_giving_up.specs.declared.giving_up.Failing.{Failing}
 use Rattle.nq_giving_up.specs.declared.giving_up.GivenUp.{GivenUp}
-use Rattle.nq_giving_up.specs.declared.giving_up.Failing.TheVariants.{Failed, OutOfSteps, Unknown}
+use Rattle.nq_giving_up.specs.declared.giving_up.Failing.TheVariants.{Failed, OutOfSteps}
 
--- the tree of a failure from the first goal, for this cause; or the steps are used up; or nothing
+-- the tree of a failure from the first goal, for this cause; or the steps are used up
 abbrev pub IsFailing : ℕ → History → Hints → List Term → Failing → Type 0
 IsFailing limit h hints first (Failed steps cause) = ShowsTree h hints first (steps_of steps.items) cause
 IsFailing limit h hints first OutOfSteps = IsUsedUp limit h
-IsFailing limit h hints first Unknown = ⊤
 
 -- the same of work at hand: its steps are used up
 abbrev pub TellsOf : List Entry → GivenHints → Work → List TermId → Failing → Type 0
 TellsOf history hints work goal (Failed steps cause) = ShowsTree (events_at work.bank history) (hints_at work.bank hints) (terms_at work.bank goal) (steps_of steps.items) cause
 TellsOf history hints work goal OutOfSteps = work.counter.used ≡ work.counter.limit
-TellsOf history hints work goal Unknown = ⊤
 
 -- the work grew, and this is told of it then
 pub record IsGivenUp (history : List Entry) (hints : GivenHints) (work : Work) (goal : List TermId) (given : GivenUp) : Type 0 where

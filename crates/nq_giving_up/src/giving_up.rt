@@ -1,9 +1,10 @@
 //! The tree of a lemma's failure.
-ghost use Rattle.std.specs.Prelude.{◌≡◌, IfOk};
+ghost use Rattle.std.specs.Prelude.{◌≡◌, ◌<◌, ◌+◌, IfOk, IfSome, true, false};
 ghost use Rattle.nq_bank.specs.Content.{Stands, term_at};
 ghost use Rattle.nq_bank.specs.Marks.{CanRelease, released};
 ghost use Rattle.nq_history.specs.Events.{HistoryStands, events_at};
 ghost use Rattle.nq_history.specs.Hints.{HintsStand};
+ghost use Rattle.nq_kernel.specs.Growing.{WorkGrows, WorkStands};
 ghost use Rattle.nq_kernel.specs.Hints.{HintsAreIn};
 ghost use Rattle.nq_kernel.specs.Over.{TermIsIn};
 ghost use Rattle.nq_kernel.specs.Ready.{IsReady};
@@ -30,8 +31,6 @@ pub enum Failing {
     Failed(Vec<ShownStep>, Cause),
     /// The steps are used up.
     OutOfSteps,
-    /// Nothing.
-    Unknown,
 }
 
 /// What is told of a lemma, and the bank as it was before.
@@ -50,19 +49,84 @@ fn failing_of(
     work: &Work,
     goal: &[TermId],
     outcome: Outcome,
-) -> Result<Failing, AllocError>
+) -> Result<Option<Failing>, AllocError>
     requires { IsOutcome history.now hints.now work.now goal.now outcome }
-    ensures { IfOk result (TellsOf history.now hints.now work.now goal.now) }
+    ensures { IfOk result (λ found. IfSome found (TellsOf history.now hints.now work.now goal.now)) }
 {
     let _ = (history.len(), hints.instances.len(), goal.len());
     match outcome {
         Outcome::Failed(steps, cause) => {
             let shown = shown_steps(&work.bank, steps.as_slice())?;
-            Ok(Failing::Failed(shown, shown_cause(cause)))
+            Ok(Some(Failing::Failed(shown, shown_cause(cause))))
         }
-        Outcome::OutOfSteps => Ok(Failing::OutOfSteps),
-        Outcome::Proved(_, _) => Ok(Failing::Unknown),
-        Outcome::Unknown => Ok(Failing::Unknown),
+        Outcome::OutOfSteps => Ok(Some(Failing::OutOfSteps)),
+        Outcome::Proved(_, _) => Ok(None),
+        Outcome::Unknown => Ok(None),
+    }
+}
+
+/// Counts an entry, and tells whether a step was left for it.
+fn count_entry(work: &mut Work, history: &History) -> bool
+    requires stands { WorkStands history.now work.old }
+    ensures counted { result ≡ true → work.new.counter.used ≡ work.old.counter.used + 1 }
+    ensures left { result ≡ true → work.old.counter.used < work.old.counter.limit }
+    ensures out { result ≡ false → work.new.counter.used ≡ work.new.counter.limit }
+    ensures grows { WorkGrows history.now work.old work.new }
+{
+    let _ = work.counter.used();
+    match work.enter(0) {
+        Ok(()) => true,
+        Err(_) => false,
+    }
+}
+
+/// Counts entries until no step is left.
+fn spend(work: &mut Work, history: &History)
+    requires stands { WorkStands history.now work.old }
+    ensures out { work.new.counter.used ≡ work.new.counter.limit }
+    ensures grows { WorkGrows history.now work.old work.new }
+{
+    loop {
+        if !count_entry(work, history) {
+            return;
+        }
+    }
+}
+
+/// How many terms and how many lines the work has.
+fn size_of(work: &Work) -> (u64, u64) {
+    (work.bank.len(), work.log.len())
+}
+
+/// What is told of a goal by a mover. Where it proves the goal or tells nothing, it is asked again with the steps that are left, an
+/// entry being counted each time. A round in which no term and no line is new will be followed by none that tells more: then
+/// entries are counted until no step is left.
+fn ask<M: Mover>(
+    work: &mut Work,
+    mover: &mut M,
+    history: &History,
+    hints: &Hints,
+    goal: &[TermId],
+) -> Result<Failing, AllocError>
+    requires ready { CanMove history.now hints.now work.old }
+    requires goal { IsGoalIn history.now work.old goal.now }
+    ensures told { IfOk result (TellsOf history.now hints.now work.new goal.now) }
+    ensures grows { WorkGrows history.now work.old work.new }
+{
+    holding();
+    loop {
+        let size = size_of(work);
+        let outcome = solve_first(work, mover, history, hints, goal)?;
+        if let Some(failing) = failing_of(history, hints, work, goal, outcome)? {
+            return Ok(failing);
+        }
+        if size_of(work) == size {
+            spend(work, history);
+            return Ok(Failing::OutOfSteps);
+        }
+        if !count_entry(work, history) {
+            return Ok(Failing::OutOfSteps);
+        }
     }
 }
 
@@ -78,8 +142,7 @@ fn told<M: Mover>(
     requires goal { IsGoalIn history.now work goal.now }
     ensures told { IfOk result (IsGivenUp history.now hints.now work goal.now) }
 {
-    let outcome = solve_first(&mut work, mover, history, hints, goal)?;
-    let failing = failing_of(history, hints, &work, goal, outcome)?;
+    let failing = ask(&mut work, mover, history, hints, goal)?;
     Ok(GivenUp {
         bank: work.bank,
         failing,
@@ -98,9 +161,8 @@ fn given_back(given: GivenUp, mark: Mark) -> GivenUp
 }
 
 /// What is told of a lemma by a mover whose work begins with no step used and may take so many: the tree of its failure from the
-/// first goal, each step of which is legal and whose goals left over are led on by nothing; or that the steps are used up; or
-/// nothing. What it made in the bank is given back. An instance that is deeper than a bank allows counts as want of memory; a
-/// lawful hint names none.
+/// first goal, each step of which is legal and whose goals left over are led on by nothing; or that the steps are used up. What it
+/// made in the bank is given back. An instance that is deeper than a bank allows counts as want of memory; a lawful hint names none.
 pub fn give_up_by<M: Mover>(
     alloc: Global,
     bank: Bank,

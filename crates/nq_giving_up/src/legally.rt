@@ -17,6 +17,7 @@ use nq_history::{Hints, History};
 use nq_inductor::OneCase;
 use nq_legal::Legal;
 use nq_literal::LiteralRewriter;
+use nq_rule_table::Rules;
 use std::alloc::{AllocError, Global};
 
 /// What is told of a lemma by simplification, SUBST, ELIM, FERT, GEN, IRR and inductions by one case, in work
@@ -38,9 +39,10 @@ pub fn give_up(
     ensures bank { IfOk result (λ given. given.bank ≡ bank) }
     ensures told { IfOk result (λ given. IsFailing steps (events_at bank history.now) (hints_at bank hints.now) (first_goal (events_at bank history.now) (hints_at bank hints.now) (term_at bank goal)) given.failing) }
 {
+    let rules = Rules::of(&bank, history)?;
     let mut mover = Legal {
-        closer: SearchCloser,
-        rewriter: LiteralRewriter::new(alloc, hints, u64::MAX),
+        closer: SearchCloser { rules: &rules },
+        rewriter: LiteralRewriter::new(alloc, hints, &rules, u64::MAX),
         inductor: OneCase,
     };
     give_up_by(alloc, bank, &mut mover, history, hints, goal, steps)

@@ -25,6 +25,7 @@ use nq_inductor::OneCase;
 use nq_kernel::{Log, Stop, Work, held_work};
 use nq_legal::{Legal, NoCloser};
 use nq_literal::LiteralRewriter;
+use nq_rule_table::Rules;
 use nq_uses::first_goal;
 use nq_waterfall::Mover;
 use nq_waterfall::laws::holding;
@@ -35,6 +36,9 @@ const TRACE_STEPS: u64 = 200_000;
 
 /// How many steps are used when a trace goes on to no further goals.
 const TRACED_STEPS: u64 = 20_000;
+
+/// How many steps are used when a trace goes on to no further goals below its inductions.
+const INDUCTED_STEPS: u64 = 6_000;
 
 /// The steps of a trace, if it is told, and the bank.
 #[derive(Drop)]
@@ -103,14 +107,16 @@ fn follow_lemma(
 {
     holding();
     held_work();
+    let rules = Rules::of(&bank, history)?;
     let mark = bank.mark();
     let mut mover = Bounded {
         mover: Legal {
             closer: NoCloser,
-            rewriter: LiteralRewriter::new(alloc, hints, u64::MAX),
+            rewriter: LiteralRewriter::new(alloc, hints, &rules, u64::MAX),
             inductor: OneCase,
         },
         until: TRACED_STEPS,
+        inducted_until: INDUCTED_STEPS,
     };
     let mut work = Work::new(bank, Log::new(alloc), TRACE_STEPS);
     let Ok(first) = first_goal(&mut work.bank, history, hints, goal) else {

@@ -32,7 +32,7 @@ mod prover;
 mod verdict;
 
 pub use counter::Counter;
-pub use log::Log;
+pub use log::{Log, is_same_clause, mark_of};
 use nq_arith::full_soundness;
 pub use prescription::Prescription;
 pub use prover::Prover;

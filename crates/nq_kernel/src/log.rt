@@ -44,15 +44,17 @@ pub struct Log {
     lines: Vec<Line>,
     /// The number of a line that may have the clause of this mark.
     marks: HashMap<u64, u64>,
+    /// The numbers of lines that were kept under keys.
+    kept: HashMap<u64, u64>,
 }
 
 /// The factor that mixes the bits of a mark.
 const FACTOR: u64 = 0x9E37_79B9_7F4A_7C15;
 
-/// A number for a clause, which other clauses seldom have.
-fn mark_of(clause: &[TermId]) -> u64 {
+/// A number for some terms, which others seldom have. Nothing rests on it: what is found by it is compared.
+pub fn mark_of(terms: &[TermId]) -> u64 {
     let mut mark = FACTOR;
-    for t in clause {
+    for t in terms {
         let product = (mark ^ t.0).wrapping_mul(FACTOR);
         mark = product ^ (product >> 29);
     }
@@ -61,14 +63,16 @@ fn mark_of(clause: &[TermId]) -> u64 {
 
 /// Are two literals one?
 fn is_same_literal(literal: TermId, other: TermId) -> bool
-    ensures { IsTrue result → literal ≡ other }
+    ensures same { IsTrue result → literal ≡ other }
+    ensures other { literal ≡ other → IsTrue result }
 {
     literal == other
 }
 
 /// Are two clauses the same, literal by literal?
-fn is_same_clause(clause: &[TermId], other: &[TermId]) -> bool
-    ensures { IsTrue result → clause.now ≡ other.now }
+pub fn is_same_clause(clause: &[TermId], other: &[TermId]) -> bool
+    ensures same { IsTrue result → clause.now ≡ other.now }
+    ensures other { clause.now ≡ other.now → IsTrue result }
 {
     match clause {
         [] => other.is_empty(),
@@ -116,6 +120,7 @@ impl Log {
             alloc,
             lines: Vec::new(alloc),
             marks: HashMap::new(alloc),
+            kept: HashMap::new(alloc),
         }
     }
 
@@ -197,6 +202,21 @@ impl Log {
             let mark = mark_of(clause);
             let _ = self.marks.insert(mark, line);
         }
+    }
+
+    /// The line that was last kept under a key, if it stands. What it says is for the caller to know.
+    pub(crate) fn kept(&self, key: u64) -> Option<u64>
+        ensures { IfSome result (λ n. IsSome (ids_at self.now n)) }
+    {
+        let n = self.kept.get(&key).copied()?;
+        if self.stands(n) { Some(n) } else { None }
+    }
+
+    /// Keeps a line under a key, so that it is found again. Where memory is wanting it is not kept.
+    pub(crate) fn keep(&mut self, key: u64, line: u64)
+        ensures { self.new ≡ self.old }
+    {
+        let _ = self.kept.insert(key, line);
     }
 
     /// The number of a line that has the clause which an allowed rule gives: of one that is noted, or else of a new one, which

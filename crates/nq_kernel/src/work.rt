@@ -210,6 +210,20 @@ impl Work {
         self.find_or_add(history, Rule::Instance(line, pairs))
     }
 
+    /// The line that was last kept under a key, if it stands. What it says is for the caller to know.
+    pub fn kept(&self, key: u64) -> Option<u64>
+        ensures { IfSome result (LineStands self.now) }
+    {
+        self.log.kept(key)
+    }
+
+    /// Keeps a line under a key, so that it is found again. Where memory is wanting it is not kept.
+    pub fn keep(&mut self, key: u64, line: u64)
+        ensures { self.new ≡ self.old }
+    {
+        self.log.keep(key, line);
+    }
+
     /// Counts an entry of the rewriter, which is nested in so many others; one that is nested too deep uses the counter up.
     pub fn enter(&mut self, depth: u32) -> Result<(), Stop>
         ensures same { self.new ≡ record self.old { counter = self.new.counter } }

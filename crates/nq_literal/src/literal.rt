@@ -10,6 +10,7 @@ use nq_history::{Hints, History};
 use nq_kernel::{Stop, Work};
 use nq_reduce::{Rewritten, argument_of, congruent, follow, unchanged};
 use nq_rewrite::{Learnt, rewritten};
+use nq_rule_table::Rules;
 use nq_rules::one_of;
 
 /// Rewrites a literal where these are assumed. A literal `(NOT p)` keeps its NOT, unless p becomes a value.
@@ -17,6 +18,7 @@ pub fn rewrite_literal(
     work: &mut Work,
     history: &History,
     hints: &Hints,
+    rules: &Rules,
     learnt: &mut Learnt,
     assumed: &[TermId],
     t: TermId,
@@ -27,8 +29,8 @@ pub fn rewrite_literal(
     ensures out { result ≡ Err Stop.OutOfSteps → work.new.counter.used ≡ work.new.counter.limit }
 {
     match one_of(&work.bank, ground::NOT, t) {
-        Some(_) => rewrite_denial(work, history, hints, learnt, assumed, t),
-        None => rewritten(work, history, hints, learnt, assumed, t),
+        Some(_) => rewrite_denial(work, history, hints, rules, learnt, assumed, t),
+        None => rewritten(work, history, hints, rules, learnt, assumed, t),
     }
 }
 
@@ -37,6 +39,7 @@ fn rewrite_denial(
     work: &mut Work,
     history: &History,
     hints: &Hints,
+    rules: &Rules,
     learnt: &mut Learnt,
     assumed: &[TermId],
     t: TermId,
@@ -47,7 +50,7 @@ fn rewrite_denial(
     ensures out { result ≡ Err Stop.OutOfSteps → work.new.counter.used ≡ work.new.counter.limit }
 {
     match argument_of(work, history, t, 1) {
-        Some(p) => rewrite_denied(work, history, hints, learnt, assumed, t, p),
+        Some(p) => rewrite_denied(work, history, hints, rules, learnt, assumed, t, p),
         None => Ok(unchanged(t)),
     }
 }
@@ -57,6 +60,7 @@ fn rewrite_denied(
     work: &mut Work,
     history: &History,
     hints: &Hints,
+    rules: &Rules,
     learnt: &mut Learnt,
     assumed: &[TermId],
     t: TermId,
@@ -68,12 +72,13 @@ fn rewrite_denied(
     ensures grows { WorkGrows history.now work.old work.new }
     ensures out { result ≡ Err Stop.OutOfSteps → work.new.counter.used ≡ work.new.counter.limit }
 {
-    let inside = rewritten(work, history, hints, learnt, assumed, p)?;
+    let inside = rewritten(work, history, hints, rules, learnt, assumed, p)?;
     let denial = congruent(work, history, assumed, t, 1, p, inside)?;
     rewrite_outside(
         work,
         history,
         hints,
+        rules,
         learnt,
         assumed,
         t,
@@ -87,6 +92,7 @@ fn rewrite_outside(
     work: &mut Work,
     history: &History,
     hints: &Hints,
+    rules: &Rules,
     learnt: &mut Learnt,
     assumed: &[TermId],
     t: TermId,
@@ -101,7 +107,7 @@ fn rewrite_outside(
     ensures out { result ≡ Err Stop.OutOfSteps → work.new.counter.used ≡ work.new.counter.limit }
 {
     if work.bank.is_value(p) {
-        let rest = rewritten(work, history, hints, learnt, assumed, denial.term)?;
+        let rest = rewritten(work, history, hints, rules, learnt, assumed, denial.term)?;
         follow(work, history, assumed, t, denial, rest)
     } else {
         Ok(denial)

@@ -14,6 +14,7 @@ use nq_kernel::{Stop, Work};
 use nq_lines::{deny, undeny};
 use nq_reduce::{Rewritten, with_more};
 use nq_rewrite::Learnt;
+use nq_rule_table::Rules;
 use nq_rules::one_of;
 
 /// Rewrites a literal under the negations of the others from a place on, where these are assumed too.
@@ -22,6 +23,7 @@ pub fn rewrite_from(
     work: &mut Work,
     history: &History,
     hints: &Hints,
+    rules: &Rules,
     learnt: &mut Learnt,
     others: &[TermId],
     place: usize,
@@ -35,9 +37,11 @@ pub fn rewrite_from(
     ensures out { result ≡ Err Stop.OutOfSteps → work.new.counter.used ≡ work.new.counter.limit }
 {
     if place < others.len() {
-        rewrite_under(work, history, hints, learnt, others, place, assumed, t)
+        rewrite_under(
+            work, history, hints, rules, learnt, others, place, assumed, t,
+        )
     } else {
-        rewrite_literal(work, history, hints, learnt, assumed, t)
+        rewrite_literal(work, history, hints, rules, learnt, assumed, t)
     }
 }
 
@@ -47,6 +51,7 @@ fn rewrite_under(
     work: &mut Work,
     history: &History,
     hints: &Hints,
+    rules: &Rules,
     learnt: &mut Learnt,
     others: &[TermId],
     place: usize,
@@ -61,8 +66,12 @@ fn rewrite_under(
     ensures out { result ≡ Err Stop.OutOfSteps → work.new.counter.used ≡ work.new.counter.limit }
 {
     match denied_at(work, history, others, place) {
-        Some(a) => rewrite_with(work, history, hints, learnt, others, place, assumed, a, t),
-        None => rewrite_denying(work, history, hints, learnt, others, place, assumed, t),
+        Some(a) => rewrite_with(
+            work, history, hints, rules, learnt, others, place, assumed, a, t,
+        ),
+        None => rewrite_denying(
+            work, history, hints, rules, learnt, others, place, assumed, t,
+        ),
     }
 }
 
@@ -72,6 +81,7 @@ fn rewrite_with(
     work: &mut Work,
     history: &History,
     hints: &Hints,
+    rules: &Rules,
     learnt: &mut Learnt,
     others: &[TermId],
     place: usize,
@@ -92,6 +102,7 @@ fn rewrite_with(
         work,
         history,
         hints,
+        rules,
         learnt,
         others,
         place + 1,
@@ -106,6 +117,7 @@ fn rewrite_denying(
     work: &mut Work,
     history: &History,
     hints: &Hints,
+    rules: &Rules,
     learnt: &mut Learnt,
     others: &[TermId],
     place: usize,
@@ -122,7 +134,7 @@ fn rewrite_denying(
     let literal = others[place];
     let denied = deny(work, history, literal)?;
     let new = rewrite_with(
-        work, history, hints, learnt, others, place, assumed, denied, t,
+        work, history, hints, rules, learnt, others, place, assumed, denied, t,
     )?;
     undenied(work, history, literal, t, new)
 }

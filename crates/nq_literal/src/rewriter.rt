@@ -15,6 +15,7 @@ use nq_history::{Hints, History};
 use nq_kernel::{Stop, Work};
 use nq_reduce::Rewritten;
 use nq_rewrite::Learnt;
+use nq_rule_table::Rules;
 use nq_simplify::{NewLiteral, Rewriter};
 use std::alloc::Global;
 
@@ -23,6 +24,8 @@ use std::alloc::Global;
 pub struct LiteralRewriter<'a> {
     /// The hints.
     pub hints: &'a Hints,
+    /// The rules of the history.
+    pub rules: &'a Rules,
     /// The count of used steps from which on no literal is rewritten.
     pub until: u64,
     /// What the rewritings of this proof learnt.
@@ -30,10 +33,16 @@ pub struct LiteralRewriter<'a> {
 }
 
 impl<'a> LiteralRewriter<'a> {
-    /// A rewriter as these hints ask, which rewrites no literal from this count of used steps on. Nothing is learnt yet.
-    pub fn new(alloc: Global, hints: &'a Hints, until: u64) -> LiteralRewriter<'a> {
+    /// A rewriter by these rules as these hints ask, which rewrites no literal from this count of used steps on. Nothing is learnt yet.
+    pub fn new(
+        alloc: Global,
+        hints: &'a Hints,
+        rules: &'a Rules,
+        until: u64,
+    ) -> LiteralRewriter<'a> {
         LiteralRewriter {
             hints,
+            rules,
             until,
             learnt: Learnt::new(alloc),
         }
@@ -51,7 +60,15 @@ impl<'a> Rewriter for LiteralRewriter<'a> {
         if is_past(work, self.until) {
             return Ok(None);
         }
-        rewrite_beside(work, history, self.hints, &mut self.learnt, others, literal)
+        rewrite_beside(
+            work,
+            history,
+            self.hints,
+            self.rules,
+            &mut self.learnt,
+            others,
+            literal,
+        )
     }
 }
 
@@ -65,6 +82,7 @@ fn rewrite_beside(
     work: &mut Work,
     history: &History,
     hints: &Hints,
+    rules: &Rules,
     learnt: &mut Learnt,
     others: &[TermId],
     literal: TermId,
@@ -79,7 +97,7 @@ fn rewrite_beside(
 {
     match closed_by_truth(work, history, others, literal)? {
         Some(new) => Ok(Some(new)),
-        None => rewrite_open(work, history, hints, learnt, others, literal),
+        None => rewrite_open(work, history, hints, rules, learnt, others, literal),
     }
 }
 
@@ -88,6 +106,7 @@ fn rewrite_open(
     work: &mut Work,
     history: &History,
     hints: &Hints,
+    rules: &Rules,
     learnt: &mut Learnt,
     others: &[TermId],
     literal: TermId,
@@ -100,7 +119,7 @@ fn rewrite_open(
     ensures grows { WorkGrows history.now work.old work.new }
     ensures out { result ≡ Err Stop.OutOfSteps → work.new.counter.used ≡ work.new.counter.limit }
 {
-    let new = rewrite_from(work, history, hints, learnt, others, 0, &[], literal)?;
+    let new = rewrite_from(work, history, hints, rules, learnt, others, 0, &[], literal)?;
     Ok(changed(literal, new))
 }
 

@@ -2,34 +2,7 @@
 ghost use Rattle.std.specs.Prelude.{◌≡◌, IsTrue};
 ghost use Rattle.nq_kernel.specs.Lines.{ids_at};
 
-use nq_bank::TermId;
-use nq_kernel::Log;
-
-/// Are two literals one?
-fn is_same_literal(literal: TermId, other: TermId) -> bool
-    ensures { IsTrue result → literal ≡ other }
-{
-    literal == other
-}
-
-/// Are two clauses the same, literal by literal?
-fn is_same_clause(clause: &[TermId], other: &[TermId]) -> bool
-    ensures { IsTrue result → clause.now ≡ other.now }
-{
-    match clause {
-        [] => other.is_empty(),
-        [first, rest @ ..] => match other {
-            [] => false,
-            [head, tail @ ..] => {
-                if is_same_literal(*first, *head) {
-                    is_same_clause(rest, tail)
-                } else {
-                    false
-                }
-            }
-        },
-    }
-}
+use nq_kernel::{Log, is_same_clause};
 
 /// Do two lines stand, and have they the same clause?
 pub fn is_same_line(log: &Log, line: u64, other: &Log, n: u64) -> bool

@@ -7,6 +7,7 @@ use nq_kernel::Rule;
 use nq_rule::{CaseOfInduction, InductionStep};
 use std::alloc::{AllocError, Global};
 
+/// An instance at which a case of an induction uses its claim, with the new number of its line.
 fn renumbered_step(
     alloc: Global,
     numbers: &[u64],
@@ -21,6 +22,7 @@ fn renumbered_step(
     })
 }
 
+/// The same of several.
 fn renumbered_steps(
     alloc: Global,
     numbers: &[u64],
@@ -36,6 +38,7 @@ fn renumbered_steps(
     Ok(made)
 }
 
+/// A case of an induction, with the new numbers of the lines that it cites.
 fn renumbered_case(
     alloc: Global,
     numbers: &[u64],
@@ -51,6 +54,7 @@ fn renumbered_case(
     })
 }
 
+/// The same of several.
 fn renumbered_cases(
     alloc: Global,
     numbers: &[u64],

@@ -12,12 +12,12 @@ use nq_history::History;
 use nq_kernel::{Log, Work};
 use std::alloc::AllocError;
 
-/// What is left of work, and the number that its line has there.
+/// What is left of work, and the number that the line which shows the lemma has there.
 #[derive(Drop)]
 pub struct Shortened {
     /// The work, with a log of fewer lines or with the one that it had.
     pub work: Work,
-    /// The line's number in that log.
+    /// The number of that line in the log.
     pub line: u64,
 }
 

@@ -1,5 +1,5 @@
 -- The five parts of the normal form together.
-use Rattle.std.proofs.Common.{◌≡◌, Bool, true, false, ◌&&◌, refl, sym, ap₂, ◌∙◌}
+use Rattle.std.proofs.Common.{◌≡◌, Bool, true, false, ◌&&◌, refl, sym, ap, ap₂, ◌∙◌}
 use Rattle.std.specs.Prelude.{not, IsTrue, ◌↔◌}
 use Rattle.nq_logic.specs.Histories.{History}
 use Rattle.nq_proof.specs.Clauses.{Clause}
@@ -23,6 +23,10 @@ normal_joined h hints goal plain rewritable answer p r is =
     of_bools false false false true false = refl
     of_bools false false false false true = refl
     of_bools false false false false false = refl
+
+pub not_plain : (h : History) (hints : Hints) (goal : Clause) (plain : Bool) → plain ≡ is_plain h hints goal → plain ≡ false → false ≡ is_normal h hints goal
+not_plain h hints goal plain p untrue =
+    normal_joined h hints goal plain (has_rewritable h hints goal) false p refl (ap (λ b. b && not (has_rewritable h hints goal)) (sym untrue))
 
 pub normal_tells : (h : History) (hints : Hints) (goal : Clause) (answer : Bool) → answer ≡ is_normal h hints goal → IsTrue answer ↔ IsNormal h hints goal
 normal_tells h hints goal answer e =

@@ -7,6 +7,7 @@ use Rattle.nq_logic.specs.RuleShapes.{is_function_named, and_parts, rule_parts, 
 use Rattle.nq_bank.specs.declared.node.TermId.{TermId}
 use Rattle.nq_bank.specs.Content.{Content, term_at, terms_at}
 use Rattle.nq_goals.specs.Normal.{Everywhere, Literally, kind_of_equation, kind_of_part, is_without, plain_parts}
+use Rattle.std.specs.List.{list_any}
 use Rattle.nq_normal.proofs.AtomLemmas.{turned}
 
 pub kind_numeral : (n : ℕ) → kind_of_part (numeral n) ≡ Literally
@@ -142,3 +143,8 @@ numeral_alone t n e = ap and_parts e ∙ (parts_numeral n ∙ ap (λ u. u ∷ []
 
 pub numeral_plain : (t : Term) (n : ℕ) → t ≡ numeral n → plain_parts (rule_parts t) ≡ and_parts t
 numeral_plain t n e = ap (λ u. plain_parts (rule_parts u)) e ∙ (plain_numeral n ∙ ap and_parts (sym e))
+
+-- what no part does is done by none of those that are kept
+pub none_kept : (test : Term → Bool) (kept : Bool) (ts : List Term) → list_any test ts ≡ false → false ≡ list_any test (if kept then ts else [])
+none_kept test true ts none = sym none
+none_kept test false ts none = refl

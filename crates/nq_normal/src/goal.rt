@@ -81,6 +81,9 @@ pub fn is_normal(
     ensures tells { IfOk result (λ answer. IsTrue answer ↔ IsNormal (events_at bank.now history.now) (hints_at bank.now hints.now) (terms_at bank.now goal.now)) }
 {
     let plain = is_plain(bank, history, hints, goal)?;
+    if !plain {
+        return Ok(false);
+    }
     let rewritable = has_rewritable(bank, history, hints, goal)?;
     Ok(is_both(plain, !rewritable))
 }

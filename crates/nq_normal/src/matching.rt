@@ -1,5 +1,7 @@
 //! Instances of patterns, and sides that differ by an exchange of variables.
 ghost use Rattle.std.specs.Prelude.{◌≡◌, ◌&&◌, IfOk};
+ghost use Rattle.nq_logic.specs.RuleShapes.{variables_of};
+ghost use Rattle.nq_logic.specs.Admissible.{has_variables};
 ghost use Rattle.nq_bank.specs.Content.{Stands, term_at};
 ghost use Rattle.nq_goals.specs.Matching.{is_instance, is_permutative};
 
@@ -21,15 +23,28 @@ pub fn is_instance(bank: &Bank, pattern: TermId, t: TermId) -> Result<bool, Allo
     Ok(found)
 }
 
+/// Is the left term an instance of the right one, which has no other variables?
+fn is_exchanged(bank: &Bank, left: TermId, right: TermId) -> Result<bool, AllocError>
+    requires left { Stands bank.now left }
+    requires right { Stands bank.now right }
+    ensures { IfOk result (λ answer. answer ≡ (is_instance (term_at bank.now right) (term_at bank.now left) && has_variables (variables_of (term_at bank.now left)) (term_at bank.now right))) }
+{
+    let back = is_instance(bank, right, left)?;
+    let mut known = HashMap::new(bank.alloc());
+    let own = has_own(bank, &mut known, Some(left), right)?;
+    Ok(is_both(back, own))
+}
+
 /// Is the right term the left one with its variables exchanged?
 pub fn is_permutative(bank: &Bank, left: TermId, right: TermId) -> Result<bool, AllocError>
     requires left { Stands bank.now left }
     requires right { Stands bank.now right }
     ensures { IfOk result (λ answer. answer ≡ is_permutative (term_at bank.now left) (term_at bank.now right)) }
 {
-    let there = is_instance(bank, left, right)?;
-    let back = is_instance(bank, right, left)?;
-    let mut known = HashMap::new(bank.alloc());
-    let own = has_own(bank, &mut known, Some(left), right)?;
-    Ok(is_both(is_both(there, back), own))
+    // few right sides are instances of their left sides, so that this is asked first
+    if is_instance(bank, left, right)? {
+        is_exchanged(bank, left, right)
+    } else {
+        Ok(false)
+    }
 }

@@ -1,16 +1,17 @@
 //! Rules without hypotheses, and whether one of them rewrites a goal.
-ghost use Rattle.std.specs.Prelude.{◌≡◌, ◌<◌, ◌||◌, All, IfOk, map};
+ghost use Rattle.std.specs.Prelude.{◌≡◌, ◌<◌, ◌||◌, [], if◌then◌else◌, All, IfOk, map};
 ghost use Rattle.std.specs.List.{list_any};
 ghost use Rattle.nq_logic.specs.Terms.{call};
 ghost use Rattle.nq_logic.specs.RuleShapes.{and_parts, rule_parts};
 ghost use Rattle.nq_bank.specs.Content.{Stands, IsNamed, text_at, term_at, terms_at};
 ghost use Rattle.nq_history.specs.Events.{class_of, event_at, events_at, EntryStands, HistoryStands};
 ghost use Rattle.nq_history.specs.Hints.{HintsStand};
+ghost use Rattle.nq_goals.specs.Hints.{is_enabled_for};
 ghost use Rattle.nq_goals.specs.Normal.{event_parts, has_rewritable, is_rewrite, parts_if_rule, parts_of_events, plain_parts, rewrites};
 ghost use Rattle.nq_normal.specs.Definitions.{hints_at};
 ghost use Rattle.nq_normal.specs.Rules.{TellsImplication, TellsSides};
 
-use crate::barred::{is_both, is_either};
+use crate::barred::is_either;
 use crate::openings::is_enabled_for;
 use crate::parts::rewrites;
 use nq_bank::{Bank, Node, Sym, TermId, ground};
@@ -129,6 +130,30 @@ fn has_rewrite(classes: &[Class]) -> bool
     }
 }
 
+/// Does some part without hypotheses of a term rewrite the goal, where its event is enabled? That is asked last, since all events are
+/// walked for it.
+fn enabled_rewrites(
+    bank: &Bank,
+    history: &History,
+    hints: &Hints,
+    name: Sym,
+    t: TermId,
+    goal: &[TermId],
+) -> Result<bool, AllocError>
+    requires history { HistoryStands bank.now history.now }
+    requires hints { HintsStand bank.now hints.now }
+    requires name { IsNamed bank.now name }
+    requires stands { Stands bank.now t }
+    requires goal { All (Stands bank.now) goal.now }
+    ensures { IfOk result (λ answer. answer ≡ list_any (rewrites (terms_at bank.now goal.now)) (if is_enabled_for (events_at bank.now history.now) (hints_at bank.now hints.now) (text_at bank.now name) then plain_parts (rule_parts (term_at bank.now t)) else [])) }
+{
+    if term_rewrites(bank, t, goal)? {
+        Ok(is_enabled_for(bank, history, hints, name))
+    } else {
+        Ok(false)
+    }
+}
+
 /// Does an axiom or lemma of these classes, as an enabled rule, rewrite the goal?
 fn rule_rewrites(
     bank: &Bank,
@@ -146,10 +171,8 @@ fn rule_rewrites(
     requires goal { All (Stands bank.now) goal.now }
     ensures { IfOk result (λ answer. answer ≡ list_any (rewrites (terms_at bank.now goal.now)) (parts_if_rule (events_at bank.now history.now) (hints_at bank.now hints.now) (text_at bank.now name) (map class_of classes.now) (term_at bank.now t))) }
 {
-    let class = has_rewrite(classes);
-    let enabled = is_enabled_for(bank, history, hints, name);
-    if is_both(class, enabled) {
-        term_rewrites(bank, t, goal)
+    if has_rewrite(classes) {
+        enabled_rewrites(bank, history, hints, name, t, goal)
     } else {
         Ok(false)
     }

@@ -14,6 +14,7 @@ pub mod ClosingLemmas
 pub mod OtherLemmas
 pub mod CoveringLemmas
 pub mod ProvingLemmas
+pub mod FittingLemmas
 pub mod EarlierLemmas
 pub mod EventLemmas
 pub mod FragmentLemmas

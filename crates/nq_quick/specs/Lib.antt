@@ -6,4 +6,5 @@ pub mod Patterns
 pub mod Decisions
 pub mod Coverings
 pub mod Earlier
+pub mod Fitting
 pub mod Answers

@@ -1,8 +1,8 @@
 //! Which axiom or lemma of the history a goal is an instance of.
 //!
-//! The entries are searched oldest first, and each axiom or lemma is matched with the goal; most matches fail at the head. A
-//! log names an axiom or lemma by its name alone, and has the first one of that name, so a match counts only where the name
-//! has this very term.
+//! The entries are searched oldest first, and each axiom or lemma is matched with the goal, where their functions are the same
+//! down to a few levels; most entries are passed by at the head, and nothing is made for them. A log names an axiom or lemma by
+//! its name alone, and has the first one of that name, so a match counts only where the name has this very term.
 ghost use Rattle.std.specs.Prelude.{◌≡◌, ◌↔◌, IsTrue, IfOk, IfSome, MatchOption, Some};
 ghost use Rattle.nq_proof.specs.Rules.{event_term};
 ghost use Rattle.nq_fragments.specs.Instances.{IsEarlierInstance};
@@ -10,10 +10,14 @@ ghost use Rattle.nq_bank.specs.Content.{IsNamed, Stands, text_at, term_at};
 ghost use Rattle.nq_history.specs.Events.{events_at, kind_term, EntryStands, HistoryStands};
 ghost use Rattle.nq_quick.specs.Earlier.{IsFound, IsNoInstance, IsPassed};
 
+use crate::fitting::may_fit;
 use nq_bank::{Bank, Sym, TermId};
 use nq_clause::{Binding, match_term};
 use nq_history::{Entry, EntryKind, History};
 use std::alloc::AllocError;
+
+/// How many levels of a term are looked at before it is matched with the goal.
+const LEVELS: u64 = 3;
 
 /// An axiom or lemma, and terms in place of its variables.
 #[derive(Drop)]
@@ -91,6 +95,9 @@ fn instance_of_event(
     requires term { Stands bank.now t }
     ensures { IfOk result (λ found. MatchOption found (IsNoInstance bank.now (events_at bank.now history.now) goal name t) (IsFound bank.now (events_at bank.now history.now) goal)) }
 {
+    if !may_fit(bank, t, goal, LEVELS) {
+        return Ok(None);
+    }
     let mut bindings = Vec::new(bank.alloc());
     if !match_term(bank, t, goal, &mut bindings)? {
         return Ok(None);

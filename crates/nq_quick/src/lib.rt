@@ -57,6 +57,7 @@ mod proving;
 
 // which axiom or lemma a goal is an instance of, and the lines of the instance
 mod earlier;
+mod fitting;
 mod instance_lines;
 
 // the first pass itself, and as a prover

@@ -107,7 +107,8 @@ fn dividing_side_with(work: &Work, history: &History, t: TermId, p: TermId) -> O
     }
 }
 
-/// The side by which a term is divided that is an equation with F, or of two truth values.
+/// The side by which an equation is divided: the one beside F; or one that is T or F by an axiom or, of LESSP, by what is known of
+/// it, beside one that is T or that is known to be T or F.
 pub fn compared_side(work: &Work, history: &History, t: TermId) -> Option<TermId>
     requires stands { WorkStands history.now work.now }
     requires term { IsTermIn history.now work.now t }

@@ -1,4 +1,5 @@
-//! Differences that are nothing: `(DIFFERENCE A B)` is 0 where A is B, or where `(LESSP A B)` or the NOT of `(LESSP B A)` is assumed.
+//! Differences that are nothing: `(DIFFERENCE A B)` is 0 where A is B, or where `(LESSP A B)` or the NOT of `(LESSP B A)` is assumed;
+//! and those that cancel a summand.
 //!
 //! The equation is shown by linear arithmetic. Which differences are asked about decides only what is tried.
 ghost use Rattle.std.specs.Prelude.{◌≡◌, All, IfOk, Err};
@@ -136,8 +137,8 @@ pub fn equal_to(
     equal_by_arithmetic(work, history, hints, assumed, t, other, equation)
 }
 
-/// A single step on a call. Where there is none, a difference that is nothing is 0, and a call that is assumed, of a function known to
-/// give truth values, is T.
+/// A single step on a call. Where there is none, a call that is assumed, of a function known to give truth values, is T, a difference
+/// that is nothing is 0, and one that takes a summand from a sum is the sum of the others.
 pub fn reduce_numbered(
     work: &mut Work,
     history: &History,
@@ -179,7 +180,7 @@ fn reduce_told(
     }
 }
 
-/// A difference that is nothing is 0, and one that takes a summand from a sum is that of the others.
+/// A difference that is nothing is 0, and one that takes a summand from a sum is the sum of the others.
 fn reduce_difference(
     work: &mut Work,
     history: &History,

@@ -7,7 +7,7 @@ ghost use Rattle.nq_reduce.specs.Rewriting.{CanRewrite, IsRewritten, ShowsEqual}
 
 use crate::learnt::Learnt;
 use crate::rewriting::rewrite_term;
-use crate::rules::{Rules, make_rules};
+use crate::rules::{Head, nested_heads};
 use crate::search::Search;
 use crate::terms::add_terms;
 use crate::way::Way;
@@ -16,6 +16,7 @@ use nq_history::{Hints, History};
 use nq_kernel::{Stop, Work};
 use nq_lines::reflexive;
 use nq_reduce::Rewritten;
+use nq_rule_table::Rules;
 use std::alloc::AllocError;
 use std::mem;
 
@@ -52,13 +53,18 @@ fn goal_of(
     }
 }
 
-/// The rules of a history that are enabled for these hints.
-fn rules_of(work: &Work, history: &History, hints: &Hints) -> Result<Rules, Stop>
+/// The left sides under implications within the conclusions of the rules that are enabled for these hints.
+fn nested_of(
+    work: &Work,
+    history: &History,
+    hints: &Hints,
+    rules: &Rules,
+) -> Result<Vec<Head>, Stop>
     requires stands { WorkStands history.now work.now }
     ensures out { result ≡ Err Stop.OutOfSteps → ⊥ }
 {
-    match make_rules(&work.bank, history, hints) {
-        Ok(rules) => Ok(rules),
+    match nested_heads(&work.bank, history, hints, rules) {
+        Ok(nested) => Ok(nested),
         Err(_) => Err(Stop::Memory),
     }
 }
@@ -70,6 +76,7 @@ fn rewrite_by(
     history: &History,
     hints: &Hints,
     rules: &Rules,
+    nested: &[Head],
     learnt: &mut Learnt,
     assumed: &[TermId],
     t: TermId,
@@ -86,6 +93,7 @@ fn rewrite_by(
     let way = Way {
         hints,
         rules,
+        nested,
         goal: goal.as_slice(),
         relieved: Vec::new(alloc),
         opening: Vec::new(alloc),
@@ -98,11 +106,13 @@ fn rewrite_by(
     Ok(new)
 }
 
-/// Rewrites a term where these are assumed, with what was learnt in the same proof. Where nothing changes there is no line.
+/// Rewrites a term where these are assumed, by the rules of a history, with what was learnt in the same proof. Where nothing changes
+/// there is no line.
 pub fn rewritten(
     work: &mut Work,
     history: &History,
     hints: &Hints,
+    rules: &Rules,
     learnt: &mut Learnt,
     assumed: &[TermId],
     t: TermId,
@@ -112,16 +122,26 @@ pub fn rewritten(
     ensures grows { WorkGrows history.now work.old work.new }
     ensures out { result ≡ Err Stop.OutOfSteps → work.new.counter.used ≡ work.new.counter.limit }
 {
-    let rules = rules_of(work, history, hints)?;
-    rewrite_by(work, history, hints, &rules, learnt, assumed, t)
+    let nested = nested_of(work, history, hints, rules)?;
+    rewrite_by(
+        work,
+        history,
+        hints,
+        rules,
+        nested.as_slice(),
+        learnt,
+        assumed,
+        t,
+    )
 }
 
-/// Rewrites a term where these are assumed. The line has only the equation of the term and the new one, and the NOTs of what
-/// is assumed.
+/// Rewrites a term where these are assumed, by the rules of a history. The line has only the equation of the term and the new one, and
+/// the NOTs of what is assumed.
 pub fn rewrite(
     work: &mut Work,
     history: &History,
     hints: &Hints,
+    rules: &Rules,
     assumed: &[TermId],
     t: TermId,
 ) -> Result<(TermId, u64), Stop>
@@ -132,7 +152,7 @@ pub fn rewrite(
     ensures out { result ≡ Err Stop.OutOfSteps → work.new.counter.used ≡ work.new.counter.limit }
 {
     let mut learnt = Learnt::new(work.bank.alloc());
-    let new = rewritten(work, history, hints, &mut learnt, assumed, t)?;
+    let new = rewritten(work, history, hints, rules, &mut learnt, assumed, t)?;
     let line = line_of(work, history, assumed, t, new)?;
     Ok((new.term, line))
 }

@@ -10,7 +10,7 @@
 // walks over terms, and the order of terms
 mod terms;
 
-// the rules of a history, by the functions of their left sides
+// the rules that the table of a history does not have by itself
 mod rules;
 
 // what is worth opening
@@ -71,7 +71,7 @@ mod entrance;
 pub use entrance::{rewrite, rewritten};
 pub use kinds::{kind_fact, kind_line, known_recognizer, named_function, one_call};
 pub use learnt::Learnt;
-pub use rules::{Rules, make_rules};
+pub use rules::{Head, nested_heads};
 pub use telling::is_constructor;
 pub use told_kinds::told_kind;
 pub use true_calls::{is_known_truth, known_at};

@@ -107,7 +107,7 @@ fn are_simpler_by(bank: &Bank, e: &Entry, old: TermId, new: TermId) -> bool
     }
 }
 
-/// Is a term a value, and no numeral that is not small? One more opening of a call on such a numeral leaves a call on the next.
+/// Is a term a value other than a large numeral? One more opening of a call on a large numeral leaves a call on the next.
 fn is_plain_value(bank: &Bank, t: TermId) -> bool
     requires { Stands bank.now t }
 {
@@ -117,7 +117,7 @@ fn is_plain_value(bank: &Bank, t: TermId) -> bool
     }
 }
 
-/// Does each argument of a call stand in the goal, or is it a value?
+/// Does each argument of a call stand in the goal, or is it a value other than a large numeral?
 fn are_seen(bank: &Bank, goal: &[TermId], t: TermId) -> bool
     requires { Stands bank.now t }
 {
@@ -130,7 +130,7 @@ fn are_seen(bank: &Bank, goal: &[TermId], t: TermId) -> bool
 }
 
 /// Is a call of a recursive function worth having in the place of another? It is where its measured arguments are smaller or more
-/// of them are values, or where all its arguments stand in the goal.
+/// of them are values other than large numerals, or where all its arguments stand in the goal.
 pub fn is_good(
     bank: &Bank,
     history: &History,

@@ -45,7 +45,7 @@ pub fn function_opened(
     if search.is_settled(mark_of_question(bank, f, t)) {
         return None;
     }
-    if is_open_to(history, way, search, f, a) && !has_failed(bank, way, search, assumed, t) {
+    if is_open_to(way, search, f, a) && !has_failed(bank, way, search, assumed, t) {
         Some(f)
     } else {
         None

@@ -14,7 +14,7 @@ use crate::rules::{Head, is_allowed};
 use crate::search::Search;
 use crate::steps::relieved_by;
 use crate::testing::known_test;
-use crate::way::{Way, fits, may_relieve, relieving};
+use crate::way::{Way, count_about, fits, may_relieve, relieving};
 use nq_bank::{Sym, TermId, ground};
 use nq_history::History;
 use nq_instances::two_in;
@@ -40,7 +40,8 @@ pub fn try_rules(
     ensures grows { WorkGrows history.now work.old work.new }
     ensures out { result ≡ Err Stop.OutOfSteps → work.new.counter.used ≡ work.new.counter.limit }
 {
-    for place in 0..way.rules.heads.len() {
+    let count = count_about(&work.bank, way, t);
+    for place in 0..count {
         let found = try_place(work, history, way, search, assumed, depth, t, place, truth)?;
         if found.is_some() {
             return Ok(found);

@@ -1,4 +1,4 @@
-//! Numbers that are made of the parts of one, as `(ADD1 (SUB1 N))`: where N is not 0, that is N.
+//! Numbers that are made of the parts of one, as `(ADD1 (SUB1 N))`: where N is known to be a number, and not 0, that is N.
 ghost use Rattle.std.specs.Prelude.{◌≡◌, IfOk, IfSome, Err};
 ghost use Rattle.nq_kernel.specs.Growing.{WorkGrows, WorkStands};
 ghost use Rattle.nq_lines.specs.Lines.{IsTermIn};

@@ -1,4 +1,4 @@
-//! Rewriting `(ADD1 (SUB1 N))` to N, where rules show that N is not 0.
+//! Rewriting `(ADD1 (SUB1 N))` to N, where N is known to be a number and rules show that it is not 0.
 ghost use Rattle.std.specs.Prelude.{◌≡◌, ◌≤◌, IfOk, Err};
 ghost use Rattle.nq_logic.specs.Sizes.{depth_limit};
 ghost use Rattle.nq_bank.specs.Content.{term_at, terms_at};

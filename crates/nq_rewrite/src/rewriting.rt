@@ -108,7 +108,7 @@ pub fn rewrite_parts(
     ensures grows { WorkGrows history.now work.old work.new }
     ensures out { result ≡ Err Stop.OutOfSteps → work.new.counter.used ≡ work.new.counter.limit }
 {
-    if opens_first(&work.bank, history, way, t) {
+    if opens_first(&work.bank, way, t) {
         rewrite_opening(work, history, way, search, assumed, depth, t)
     } else {
         rewrite_arguments(work, history, way, search, assumed, depth, t)

@@ -1,13 +1,15 @@
-//! The rules of a history, by the functions of their left sides. They decide only what is tried.
+//! The rules that a history has beside those of its table, and whether an instance of a rule may rewrite a term. They decide only what
+//! is tried.
 ghost use Rattle.nq_bank.specs.Content.{Stands};
 ghost use Rattle.nq_history.specs.Events.{HistoryStands};
-ghost use Rattle.std.specs.Prelude.{◌≡◌, ◌<◌, Err, length};
+ghost use Rattle.std.specs.Prelude.{◌≡◌, Err};
 
-use crate::terms::{has_name, is_before, is_walked};
+use crate::terms::{is_before, is_walked};
 use nq_bank::{Bank, Node, Sym, TermId, ground};
 use nq_clause::match_term;
-use nq_history::{Class, Entry, EntryKind, Hints, History};
+use nq_history::{Hints, History};
 use nq_kernel::Stop;
+use nq_rule_table::Rules;
 use nq_rules::{conclusion_of, left_side, two_of};
 use std::alloc::AllocError;
 
@@ -22,46 +24,6 @@ pub struct Head {
     pub truth: bool,
     /// Whether the right side is an instance of the left side, as in commutativity.
     pub permutes: bool,
-}
-
-/// The rules that are enabled, by their left sides, the newest first.
-#[derive(Drop)]
-pub struct Rules {
-    /// The left sides.
-    pub heads: Vec<Head>,
-}
-
-/// Is an event enabled for the hints?
-pub fn is_enabled(history: &History, hints: &Hints, name: Sym) -> bool {
-    if has_name(hints.disable.as_slice(), name) {
-        return false;
-    }
-    if has_name(hints.enable.as_slice(), name) {
-        return true;
-    }
-    history.enabled(name)
-}
-
-/// Is REWRITE among these classes?
-fn has_rewrite(classes: &[Class]) -> bool {
-    for class in classes {
-        if *class == Class::Rewrite {
-            return true;
-        }
-    }
-    false
-}
-
-/// Is an entry an axiom or lemma of the class REWRITE?
-fn is_rewrite_rule(e: &Entry) -> bool {
-    match &e.kind {
-        EntryKind::Axiom(classes, _) => has_rewrite(classes.as_slice()),
-        EntryKind::Lemma(classes, _) => has_rewrite(classes.as_slice()),
-        EntryKind::Shell(_) => false,
-        EntryKind::Dcl(_) => false,
-        EntryKind::Defn(_, _, _) => false,
-        EntryKind::Toggle(_, _) => false,
-    }
 }
 
 /// Is one term an instance of another?
@@ -121,36 +83,68 @@ fn add_heads(bank: &Bank, heads: &mut Vec<Head>, place: u64, part: TermId) -> Re
     }
 }
 
-/// Adds the left sides of the entry at a place, if it is a rule that is enabled.
-fn add_rule(
+/// Adds the left sides of those parts of a conclusion that are implications.
+fn add_nested(
+    bank: &Bank,
+    heads: &mut Vec<Head>,
+    place: u64,
+    part: TermId,
+) -> Result<(), AllocError>
+    requires { Stands bank.now part }
+{
+    match two_of(bank, ground::AND, part) {
+        Some((p, q)) => {
+            add_nested(bank, heads, place, p)?;
+            add_nested(bank, heads, place, q)
+        }
+        None => match two_of(bank, ground::IMPLIES, part) {
+            Some((_, conclusion)) => add_heads(bank, heads, place, conclusion),
+            None => Ok(()),
+        },
+    }
+}
+
+/// Adds those of the axiom or lemma at a place.
+fn add_entry(
     bank: &Bank,
     history: &History,
-    hints: &Hints,
     heads: &mut Vec<Head>,
     place: u64,
 ) -> Result<(), AllocError>
     requires stands { HistoryStands bank.now history.now }
-    requires place { place < length history.now }
 {
-    let e = history.entry(place);
-    if is_rewrite_rule(e) && is_enabled(history, hints, e.name) {
+    if place < history.len() {
+        let e = history.entry(place);
         if let Some(t) = history.term_of(bank, e.name) {
-            add_heads(bank, heads, place, conclusion_of(bank, t))?;
+            add_nested(bank, heads, place, conclusion_of(bank, t))?;
         }
     }
     Ok(())
 }
 
-/// The rules of a history that are enabled for these hints.
-pub fn make_rules(bank: &Bank, history: &History, hints: &Hints) -> Result<Rules, AllocError>
+/// The left sides under implications within the conclusions of the rules that are enabled for these hints, the newest first. The table
+/// of rules has such a part as a rule about IMPLIES.
+pub fn nested_heads(
+    bank: &Bank,
+    history: &History,
+    hints: &Hints,
+    rules: &Rules,
+) -> Result<Vec<Head>, AllocError>
     requires { HistoryStands bank.now history.now }
 {
     let mut heads = Vec::new(bank.alloc());
-    let count = history.len();
-    for place in 0..count {
-        add_rule(bank, history, hints, &mut heads, count - 1 - place)?;
+    let mut before = history.len();
+    let implications = rules.rewrites(ground::IMPLIES);
+    for at in 0..implications.len() {
+        let rule = implications[implications.len() - 1 - at];
+        if rule.truth && rule.place < before {
+            before = rule.place;
+            if rules.is_enabled_for(hints, rule.event) {
+                add_entry(bank, history, &mut heads, rule.place)?;
+            }
+        }
     }
-    Ok(Rules { heads })
+    Ok(heads)
 }
 
 /// May an instance of a rule rewrite a term? One whose right side is an instance of its left side may where what it gives comes

@@ -30,7 +30,7 @@ use Rattle.nq_spelling.proofs.NameCounts.{few_names_begin, few_names_grow, few_n
 use Rattle.nq_spelling.proofs.ReadBack.{forms_grow_histories, printed_is_read_back}
 use Rattle.nq_answers.specs.Goals.{goal_text}
 use Rattle.nq_answers.specs.Spending.{IsUsedUp}
-use Rattle.nq_answers.specs.Steps.{Answers, AnswersUnless, IsDefined, IsOutcome, IsRecursionTried, IsProvedByMoves, IsTried, by_tautology, by_evaluation, by_instance, by_falsity, by_want, by_search, Runs, after, after_event, first_answer, is_taken, measure_by, not_yet, refusal_of, refused, undone, untaken}
+use Rattle.nq_answers.specs.Steps.{Answers, AnswersUnless, IsDefined, IsOutcome, IsRecursionTried, IsProvedByMoves, IsTried, by_tautology, by_evaluation, by_instance, by_falsity, by_want, by_search, Runs, after, after_event, first_answer, is_taken, measure_by, refusal_of, refused, undone, untaken}
 use Rattle.nq_answers.proofs.Instances.{instance_derivable}
 use Rattle.nq_answers.proofs.SmallTautologies.{tautology_derivable}
 use Rattle.nq_answers.proofs.Deriving.{TakesNothing, no_refusal, refusal_nothing}
@@ -80,10 +80,9 @@ module _ (limit : ℕ) (h : History) (form : Form) (made : IsMade h) where
       shown : Derivable h (holds t) → IsMade (h ++ logic.Lemma name classes t ∷ [])
       shown derivable = gains (logic.Lemma name classes t) name free (lemma_ready h name free classes t spelled derivable) (omega arith) grown
 
-      found : IsProvedByMoves h hints t answer ⊎ (((answer ≡ OutOfSteps) × IsUsedUp limit h) ⊎ (answer ≡ not_yet form)) → IsMade (after_event h e answer)
+      found : IsProvedByMoves h hints t answer ⊎ ((answer ≡ OutOfSteps) × IsUsedUp limit h) → IsMade (after_event h e answer)
       found (inl moved) = answered e answer (ProvedFrom (goal_text (first_goal h hints t)) moved.steps) moved.answer_is (shown moved.shown)
-      found (inr (inl spent)) = answered e answer OutOfSteps spent.0 made
-      found (inr (inr so)) = answered e answer (not_yet form) so made
+      found (inr spent) = answered e answer OutOfSteps spent.0 made
 
       by_way : IsTried limit h form hints t answer → IsMade (after_event h e answer)
       by_way (by_tautology small so) = answered e answer (Proved Taut) so (shown (tautology_derivable h t spelled.claimable.over.over small))

@@ -1,6 +1,6 @@
 -- Lemmas in no fragment.
-use Rattle.std.proofs.Common.{◌≡◌, Bool, true, ℕ, List, [], ◌∷◌, ◌++◌, refl, sym, ap, ap₂, subst, inl, inr}
-use Rattle.std.specs.Prelude.{IfOk, MatchOption, Option, Result, Ok, Err, None, Some, Vec}
+use Rattle.std.proofs.Common.{◌≡◌, Bool, true, ℕ, List, [], ◌∷◌, ◌++◌, refl, sym, ap, subst, inl, inr}
+use Rattle.std.specs.Prelude.{IfOk, MatchOption, Option, Result, None, Some, Vec}
 use Rattle.std.specs.declared.alloc.AllocError.{AllocError}
 use Rattle.std.specs.declared.alloc.Global.{Global}
 use Rattle.nq_logic.specs.Terms.{Name, Term}
@@ -29,7 +29,7 @@ use Rattle.nq_kernel.specs.declared.verdict.Quick.{Quick}
 use Rattle.nq_answers.specs.Goals.{goal_text}
 use Rattle.nq_answers.specs.Shown.{ShowsTrace, ShowsTree}
 use Rattle.nq_answers.specs.Spending.{IsUsedUp}
-use Rattle.nq_answers.specs.Steps.{IsTried, by_falsity, by_want, by_search, not_yet}
+use Rattle.nq_answers.specs.Steps.{IsTried, by_falsity, by_want, by_search}
 use Rattle.nq_run.specs.HistoryView.{history_of, SessionStands}
 use Rattle.nq_run.specs.Outcome.{AreBlocks}
 use Rattle.nq_run.specs.Sessions.{IsFoundBy, IsUntaken, TriesLemma, found_claims, way_in}
@@ -99,7 +99,7 @@ module _ (limit : ℕ) (old : Session) (mark : Mark) (form : Form) (name : Name)
     pub ran_out : (r : Taken) → known ≡ None → result ≡ finding.OutOfSteps → IsUntaken old mark OutOfSteps r → TriesLemma limit old mark form name classes t hints logging r
     ran_out r never is kept =
         lemma_left limit old mark form name classes t hints OutOfSteps logging r refl
-        (by_search (record { no_fragment = none; not_false = not_false never; found = inr (inl (refl, used_up limit h t result is found)) })) kept
+        (by_search (record { no_fragment = none; not_false = not_false never; found = inr (refl, used_up limit h t result is found) })) kept
 
     -- moves proved it
     pub moved : (o : Result Taken AllocError) (line : ℕ) (steps : Vec ShownStep Global) (block : List ℕ) → known ≡ None → result ≡ Moves line → ShowsTrace h hints first (steps_of steps.items)

@@ -1,6 +1,5 @@
 // The answers to forms that are not taken.
 ghost use Rattle.std.specs.Prelude.{◌≡◌, [], ◌∷◌, IfOk, IsSome, Some};
-ghost use Rattle.nq_sexp.specs.Tree.{tree};
 ghost use Rattle.nq_comment.specs.Reports as model;
 ghost use Rattle.nq_comment.specs.ReportViews.{answer_of, words_of};
 ghost use Rattle.nq_bank.specs.Content.{text_at};
@@ -8,16 +7,14 @@ ghost use Rattle.nq_history.specs.Events.{class_of};
 ghost use Rattle.nq_shell.specs.Admission.{refusal_at};
 ghost use Rattle.nq_events.specs.Refusals.{FormalIsConstant, GroundEvent, NameInUse, NoSuchEvent, NotOfShape, OfShell, RepeatedFormal, TooManyEvents};
 ghost use Rattle.nq_run.specs.Answers.{IsAnswerTo, fault_refusal, quick_of};
-ghost use Rattle.nq_answers.specs.Steps.{not_yet, refusal_answer, refused};
+ghost use Rattle.nq_answers.specs.Steps.{refusal_answer, refused};
 
-use crate::header::word_of;
 use nq_admit::AdmitFault;
 use nq_bank::{Bank, Sym};
-use nq_comment::{FormAnswer, Quick as ShownQuick, Refusal, shown_word};
+use nq_comment::{FormAnswer, Quick as ShownQuick, Refusal};
 use nq_event::EventFault;
 use nq_history::Class;
 use nq_kernel::Quick;
-use nq_sexp::Sexp;
 use nq_shell::ShellFault;
 use std::alloc::{AllocError, Global};
 
@@ -58,13 +55,6 @@ fn named(alloc: Global, code: u64, word: &[u8], name: &[u8]) -> Result<FormAnswe
     words.push(word)?;
     words.push(name)?;
     Ok(refused(code, words))
-}
-
-/// The refusal of a form that asks for what isn't built yet.
-pub(crate) fn not_yet(alloc: Global, form: &Sexp<'_>) -> Result<FormAnswer, AllocError>
-    ensures { IfOk result (λ answer. answer_of answer ≡ not_yet (tree form.now)) }
-{
-    named(alloc, 9, b"NotYet".as_slice(), shown_word(word_of(form)))
 }
 
 /// The answer to a lemma that was proved in this fragment.

@@ -15,28 +15,19 @@ ghost use Rattle.nq_run.specs.GivingUp.{IsLeft, answer_by};
 ghost use Rattle.nq_run.specs.HistoryView.{history_of, SessionStands};
 ghost use Rattle.nq_run.specs.Sessions.{IsMarkBefore};
 
-use crate::answers::not_yet;
 use crate::proving::Conjecture;
 use crate::session::{Given, Session, Taken};
 use nq_comment::FormAnswer;
 use nq_giving_up::{Failing, give_up};
-use nq_sexp::Sexp;
 use std::alloc::{AllocError, Global};
 
-/// The answer to a lemma whose first goal has this text: the tree of its failure, or that its steps are used up; or, for now, that
-/// nothing is told.
-fn answer_by(
-    alloc: Global,
-    form: &Sexp<'_>,
-    text: Vec<u8>,
-    failing: Failing,
-) -> Result<FormAnswer, AllocError>
-    ensures { IfOk result (λ answer. answer_of answer ≡ answer_by (tree form.now) text.items failing) }
+/// The answer to a lemma whose first goal has this text: the tree of its failure, or that its steps are used up.
+fn answer_by(text: Vec<u8>, failing: Failing) -> FormAnswer
+    ensures { answer_of result ≡ answer_by text.items failing }
 {
     match failing {
-        Failing::Failed(steps, cause) => Ok(FormAnswer::Failed(text, steps, cause)),
-        Failing::OutOfSteps => Ok(FormAnswer::OutOfSteps),
-        Failing::Unknown => not_yet(alloc, form),
+        Failing::Failed(steps, cause) => FormAnswer::Failed(text, steps, cause),
+        Failing::OutOfSteps => FormAnswer::OutOfSteps,
     }
 }
 
@@ -66,7 +57,7 @@ impl Session {
             bank: given_up.bank,
             history,
         };
-        let answer = answer_by(alloc, given.form, text, given_up.failing)?;
+        let answer = answer_by(text, given_up.failing);
         Ok(session.untaken(alloc, given.mark, answer))
     }
 }

@@ -154,7 +154,7 @@ pub(crate) fn try_lemma<P: Prover>(
 }
 
 /// The work that shows what was found of a lemma. Where a log is written it has only the lines on which the line rests that
-/// shows the lemma.
+/// shows the lemma, where each of them passes its test.
 fn shown_by(work: Work, history: &History, found: Found, logging: bool) -> Result<Shown, AllocError>
     requires stands { WorkStands history.now work }
     requires legal { LogGrows work.bank history.now [] work.log }
@@ -170,7 +170,7 @@ fn shown_by(work: Work, history: &History, found: Found, logging: bool) -> Resul
     }
 }
 
-/// The work with only the lines on which the line rests that shows the lemma.
+/// The work with only the lines on which the line rests that shows the lemma, where each of them passes its test.
 fn in_fewer_lines(
     work: Work,
     history: &History,

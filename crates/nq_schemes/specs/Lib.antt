@@ -3,3 +3,4 @@ pub mod Known
 pub mod Steps
 pub mod Laws
 pub mod Owed
+pub mod Suggesting

@@ -1,5 +1,5 @@
-//! Which draft comes first: one that no other disturbs, with the greatest share of the arguments. After all come those that were
-//! merged into others, each by itself, with the fewest changed variables first.
+//! Which draft comes first: one that not only calls of LESSP suggest, that no other disturbs, with the greatest share of the
+//! arguments. After all come those that were merged into others, each by itself, with the fewest changed variables first.
 
 use crate::draft::Draft;
 use crate::merging::merge;

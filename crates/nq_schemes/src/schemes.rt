@@ -1,5 +1,5 @@
 //! The scheme of a draft, and the schemes that a goal suggests.
-ghost use Rattle.std.specs.Prelude.{◌≡◌, All, IfOk, IfSome, OnOk, Err};
+ghost use Rattle.std.specs.Prelude.{◌≡◌, ◌∷◌, [], false, All, Err, IfOk, IfSome, None, OnOk};
 ghost use Rattle.nq_history.specs.Events.{events_at};
 ghost use Rattle.nq_kernel.specs.Growing.{WorkStands, WorkGrows};
 ghost use Rattle.nq_kernel.specs.Ready.{IsReady};
@@ -7,6 +7,7 @@ ghost use Rattle.nq_lines.specs.Lines.{IsTermIn};
 ghost use Rattle.nq_induct.specs.Schemes.{IsCaseIn, IsSchemeIn};
 ghost use Rattle.nq_schemes.specs.Known.{IsOpenedIn, with_some};
 ghost use Rattle.nq_schemes.specs.Steps.{IsBasisIn};
+ghost use Rattle.nq_schemes.specs.Suggesting.{NoneSuggests, NoneSuggestsIn};
 ghost use Rattle.nq_lines.specs.OwnTerms.{HasOwnTerms};
 
 use crate::bases::basis_of;
@@ -23,6 +24,7 @@ use nq_bank::TermId;
 use nq_history::History;
 use nq_induct::{Case, Scheme};
 use nq_kernel::{Stop, Work};
+use nq_normal::suggests_induction;
 use nq_ready::own_terms;
 
 /// One case more, if there is one.
@@ -228,6 +230,19 @@ fn calls_of(work: &Work, history: &History, goal: &[TermId]) -> Result<Vec<TermI
     }
 }
 
+/// Does some call in the goal suggest an induction?
+fn is_suggested(work: &Work, history: &History, goal: &[TermId]) -> Result<bool, Stop>
+    requires stands { WorkStands history.now work.now }
+    requires goal { All (IsTermIn history.now work.now) goal.now }
+    ensures none { IfOk result (λ b. NoneSuggestsIn history.now work.now.bank goal.now → b ≡ false) }
+    ensures memory { result ≡ Err Stop.OutOfSteps → ⊥ }
+{
+    match suggests_induction(&work.bank, history, goal) {
+        Ok(answer) => Ok(answer),
+        Err(_) => Err(Stop::Memory),
+    }
+}
+
 /// The scheme of this number among those that the term of a hint suggests.
 fn scheme_of_hint(
     work: &mut Work,
@@ -240,10 +255,16 @@ fn scheme_of_hint(
     requires ready { IsReady (events_at work.old.bank history.now) }
     requires hint { IsTermIn history.now work.old t }
     ensures scheme { IfOk result (λ found. IfSome found (IsSchemeIn history.now work.new)) }
+    ensures none { NoneSuggestsIn history.now work.old.bank (t ∷ []) → IfOk result (λ found. found ≡ None) }
+    ensures steps { NoneSuggestsIn history.now work.old.bank (t ∷ []) → result ≡ Err Stop.OutOfSteps → ⊥ }
+    ensures same { NoneSuggestsIn history.now work.old.bank (t ∷ []) → work.new ≡ work.old }
     ensures grows { WorkGrows history.now work.old work.new }
     ensures out { result ≡ Err Stop.OutOfSteps → work.new.counter.used ≡ work.new.counter.limit }
 {
     let calls = [t];
+    if !is_suggested(work, history, &calls)? {
+        return Ok(None);
+    }
     scheme_of_calls(work, history, &calls, &calls, turn, arithmetic)
 }
 
@@ -259,15 +280,22 @@ fn scheme_of_goal(
     requires ready { IsReady (events_at work.old.bank history.now) }
     requires goal { All (IsTermIn history.now work.old) goal.now }
     ensures scheme { IfOk result (λ found. IfSome found (IsSchemeIn history.now work.new)) }
+    ensures none { NoneSuggestsIn history.now work.old.bank goal.now → IfOk result (λ found. found ≡ None) }
+    ensures steps { NoneSuggestsIn history.now work.old.bank goal.now → result ≡ Err Stop.OutOfSteps → ⊥ }
+    ensures same { NoneSuggestsIn history.now work.old.bank goal.now → work.new ≡ work.old }
     ensures grows { WorkGrows history.now work.old work.new }
     ensures out { result ≡ Err Stop.OutOfSteps → work.new.counter.used ≡ work.new.counter.limit }
 {
+    if !is_suggested(work, history, goal)? {
+        return Ok(None);
+    }
     let calls = calls_of(work, history, goal)?;
     scheme_of_calls(work, history, goal, calls.as_slice(), turn, arithmetic)
 }
 
 /// The scheme of this number, the best being that of number 0, among those that calls of the goal suggest, or that the term of a hint
-/// suggests. There is none where there are no more. That the measure falls may be shown by linear arithmetic, where that is wanted.
+/// suggests. There is none where there are no more. Where no call suggests one there is none, no step is counted, and the work is left
+/// as it was. That the measure falls may be shown by linear arithmetic, where that is wanted.
 pub fn scheme_of(
     work: &mut Work,
     history: &History,
@@ -281,6 +309,9 @@ pub fn scheme_of(
     requires goal { All (IsTermIn history.now work.old) goal.now }
     requires hint { IfSome hint (IsTermIn history.now work.old) }
     ensures scheme { IfOk result (λ found. IfSome found (IsSchemeIn history.now work.new)) }
+    ensures none { NoneSuggests history.now work.old.bank goal.now hint → IfOk result (λ found. found ≡ None) }
+    ensures steps { NoneSuggests history.now work.old.bank goal.now hint → result ≡ Err Stop.OutOfSteps → ⊥ }
+    ensures same { NoneSuggests history.now work.old.bank goal.now hint → work.new ≡ work.old }
     ensures grows { WorkGrows history.now work.old work.new }
     ensures out { result ≡ Err Stop.OutOfSteps → work.new.counter.used ≡ work.new.counter.limit }
 {

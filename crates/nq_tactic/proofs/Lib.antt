@@ -5,3 +5,4 @@ mod WayLemmas
 mod KnownLemmas
 mod ObjectLemmas
 mod CircleLemmas
+mod LearningLemmas

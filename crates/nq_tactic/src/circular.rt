@@ -20,6 +20,7 @@ use nq_kernel::{Stop, Work};
 use nq_lines::{Equated, Fact, Sides, congruent, cut, deny, equate, has_only, opposites, sides_of};
 use nq_reduce::argument_of;
 use nq_rewrite::{one_call, rewrite};
+use nq_rule_table::Rules;
 
 /// The most nodes of an equation whose sides are looked through.
 const NODE_LIMIT: u64 = 3000;
@@ -68,7 +69,13 @@ fn denied_circle(work: &Work, history: &History, t: TermId) -> Option<TermId>
 }
 
 /// The line that a size is what rewriting makes of it.
-fn size_fact(work: &mut Work, history: &History, hints: &Hints, size: TermId) -> Result<Fact, Stop>
+fn size_fact(
+    work: &mut Work,
+    history: &History,
+    hints: &Hints,
+    rules: &Rules,
+    size: TermId,
+) -> Result<Fact, Stop>
     requires stands { WorkStands history.now work.old }
     requires ready { HasOwnTerms (events_at work.old.bank history.now) }
     requires size { IsTermIn history.now work.old size }
@@ -76,7 +83,7 @@ fn size_fact(work: &mut Work, history: &History, hints: &Hints, size: TermId) ->
     ensures grows { WorkGrows history.now work.old work.new }
     ensures out { result ≡ Err Stop.OutOfSteps → work.new.counter.used ≡ work.new.counter.limit }
 {
-    let made = rewrite(work, history, hints, &[], size)?;
+    let made = rewrite(work, history, hints, rules, &[], size)?;
     let term = equate(work, history, size, made.0)?;
     Ok(Fact { term, line: made.1 })
 }
@@ -86,6 +93,7 @@ fn line_of_sizes(
     work: &mut Work,
     history: &History,
     hints: &Hints,
+    rules: &Rules,
     first: TermId,
     second: TermId,
     equation: TermId,
@@ -99,8 +107,8 @@ fn line_of_sizes(
     ensures grows { WorkGrows history.now work.old work.new }
     ensures out { result ≡ Err Stop.OutOfSteps → work.new.counter.used ≡ work.new.counter.limit }
 {
-    let one = size_fact(work, history, hints, first)?;
-    let two = size_fact(work, history, hints, second)?;
+    let one = size_fact(work, history, hints, rules, first)?;
+    let two = size_fact(work, history, hints, rules, second)?;
     let denied = deny(work, history, equation)?;
     arithmetic_line(work, history, hints, &[denied], &[one, two])
 }
@@ -137,6 +145,7 @@ fn line_by_sizes(
     work: &mut Work,
     history: &History,
     hints: &Hints,
+    rules: &Rules,
     size: TermId,
     other: Equated,
 ) -> Result<Option<u64>, Stop>
@@ -150,7 +159,7 @@ fn line_by_sizes(
     ensures out { result ≡ Err Stop.OutOfSteps → work.new.counter.used ≡ work.new.counter.limit }
 {
     let equation = equate(work, history, size, other.term)?;
-    match line_of_sizes(work, history, hints, size, other.term, equation)? {
+    match line_of_sizes(work, history, hints, rules, size, other.term, equation)? {
         Some(apart) => {
             let line = cut(work, history, other.line, apart, equation)?;
             Ok(Some(line))
@@ -164,6 +173,7 @@ fn line_by_size(
     work: &mut Work,
     history: &History,
     hints: &Hints,
+    rules: &Rules,
     e: TermId,
     right: TermId,
     size: TermId,
@@ -178,7 +188,7 @@ fn line_by_size(
     ensures out { result ≡ Err Stop.OutOfSteps → work.new.counter.used ≡ work.new.counter.limit }
 {
     match equal_size(work, history, e, right, size)? {
-        Some(other) => line_by_sizes(work, history, hints, size, other),
+        Some(other) => line_by_sizes(work, history, hints, rules, size, other),
         None => Ok(None),
     }
 }
@@ -188,6 +198,7 @@ fn line_by_sides(
     work: &mut Work,
     history: &History,
     hints: &Hints,
+    rules: &Rules,
     e: TermId,
     sides: Sides,
 ) -> Result<Option<u64>, Stop>
@@ -201,7 +212,7 @@ fn line_by_sides(
 {
     let count = ground_name(&work.bank, ground::COUNT);
     match one_call(work, history, count, sides.left)? {
-        Some(size) => line_by_size(work, history, hints, e, sides.right, size),
+        Some(size) => line_by_size(work, history, hints, rules, e, sides.right, size),
         None => Ok(None),
     }
 }
@@ -211,6 +222,7 @@ fn line_of_circle(
     work: &mut Work,
     history: &History,
     hints: &Hints,
+    rules: &Rules,
     e: TermId,
 ) -> Result<Option<u64>, Stop>
     requires stands { WorkStands history.now work.old }
@@ -221,7 +233,7 @@ fn line_of_circle(
     ensures out { result ≡ Err Stop.OutOfSteps → work.new.counter.used ≡ work.new.counter.limit }
 {
     match sides_of(work, history, e) {
-        Some(sides) => line_by_sides(work, history, hints, e, sides),
+        Some(sides) => line_by_sides(work, history, hints, rules, e, sides),
         None => Ok(None),
     }
 }
@@ -243,6 +255,7 @@ fn line_from(
     work: &mut Work,
     history: &History,
     hints: &Hints,
+    rules: &Rules,
     goal: &[TermId],
     e: TermId,
 ) -> Result<Option<u64>, Stop>
@@ -253,7 +266,7 @@ fn line_from(
     ensures grows { WorkGrows history.now work.old work.new }
     ensures out { result ≡ Err Stop.OutOfSteps → work.new.counter.used ≡ work.new.counter.limit }
 {
-    match line_of_circle(work, history, hints, e)? {
+    match line_of_circle(work, history, hints, rules, e)? {
         Some(line) => Ok(kept(work, history, goal, line)),
         None => Ok(None),
     }
@@ -264,6 +277,7 @@ pub fn circular_line(
     work: &mut Work,
     history: &History,
     hints: &Hints,
+    rules: &Rules,
     goal: &[TermId],
     at: usize,
 ) -> Result<Option<u64>, Stop>
@@ -276,7 +290,7 @@ pub fn circular_line(
     ensures out { result ≡ Err Stop.OutOfSteps → work.new.counter.used ≡ work.new.counter.limit }
 {
     match denied_circle(work, history, goal[at]) {
-        Some(e) => line_from(work, history, hints, goal, e),
+        Some(e) => line_from(work, history, hints, rules, goal, e),
         None => Ok(None),
     }
 }

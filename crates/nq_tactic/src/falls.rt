@@ -18,6 +18,7 @@ use nq_history::{Hints, History};
 use nq_kernel::{Stop, Work, ready_histories};
 use nq_lines::{Fact, row_fact, sides_of};
 use nq_ready::own_terms;
+use nq_rule_table::Rules;
 use nq_schemes::{owed_falls, owed_ordinal};
 use nq_search::{Plan, seek};
 
@@ -44,6 +45,7 @@ pub fn learn_falls(
     work: &mut Work,
     history: &History,
     hints: &Hints,
+    rules: &Rules,
     goal: &[TermId],
 ) -> Result<(), Stop>
     requires can { CanSearch history.now hints.now work.old }
@@ -51,7 +53,7 @@ pub fn learn_falls(
     ensures out { result ≡ Err Stop.OutOfSteps → work.new.counter.used ≡ work.new.counter.limit }
 {
     match called_in(&work.bank, goal, hints) {
-        Ok(names) => learn_falls_among(work, history, hints, names.as_slice()),
+        Ok(names) => learn_falls_among(work, history, hints, rules, names.as_slice()),
         Err(_) => Err(Stop::Memory),
     }
 }
@@ -61,6 +63,7 @@ fn learn_falls_among(
     work: &mut Work,
     history: &History,
     hints: &Hints,
+    rules: &Rules,
     names: &[Sym],
 ) -> Result<(), Stop>
     requires can { CanSearch history.now hints.now work.old }
@@ -69,7 +72,7 @@ fn learn_falls_among(
 {
     let count = history.len();
     for place in 0..count {
-        learn_falls_at(work, history, hints, names, place)?;
+        learn_falls_at(work, history, hints, rules, names, place)?;
     }
     Ok(())
 }
@@ -79,6 +82,7 @@ fn learn_falls_at(
     work: &mut Work,
     history: &History,
     hints: &Hints,
+    rules: &Rules,
     names: &[Sym],
     place: u64,
 ) -> Result<(), Stop>
@@ -89,7 +93,14 @@ fn learn_falls_at(
 {
     ready_histories();
     if place < history.len() {
-        learn_falls_named(work, history, hints, names, history.entry(place).name)?;
+        learn_falls_named(
+            work,
+            history,
+            hints,
+            rules,
+            names,
+            history.entry(place).name,
+        )?;
     }
     Ok(())
 }
@@ -99,6 +110,7 @@ fn learn_falls_named(
     work: &mut Work,
     history: &History,
     hints: &Hints,
+    rules: &Rules,
     names: &[Sym],
     f: Sym,
 ) -> Result<(), Stop>
@@ -108,14 +120,20 @@ fn learn_falls_named(
     ensures out { result ≡ Err Stop.OutOfSteps → work.new.counter.used ≡ work.new.counter.limit }
 {
     if has_name(names, f) {
-        learn_falls_of(work, history, hints, f)
+        learn_falls_of(work, history, hints, rules, f)
     } else {
         Ok(())
     }
 }
 
 /// The same, of a function.
-fn learn_falls_of(work: &mut Work, history: &History, hints: &Hints, f: Sym) -> Result<(), Stop>
+fn learn_falls_of(
+    work: &mut Work,
+    history: &History,
+    hints: &Hints,
+    rules: &Rules,
+    f: Sym,
+) -> Result<(), Stop>
     requires can { CanSearch history.now hints.now work.old }
     requires function { IsNamed work.old.bank f }
     ensures grows { WorkGrows history.now work.old work.new }
@@ -124,7 +142,7 @@ fn learn_falls_of(work: &mut Work, history: &History, hints: &Hints, f: Sym) -> 
     own_terms();
     ready_histories();
     match row_fact(work, history, f)? {
-        Some(definition) => learn_falls_defined(work, history, hints, f, definition),
+        Some(definition) => learn_falls_defined(work, history, hints, rules, f, definition),
         None => Ok(()),
     }
 }
@@ -134,6 +152,7 @@ fn learn_falls_defined(
     work: &mut Work,
     history: &History,
     hints: &Hints,
+    rules: &Rules,
     f: Sym,
     definition: Fact,
 ) -> Result<(), Stop>
@@ -144,7 +163,7 @@ fn learn_falls_defined(
     ensures out { result ≡ Err Stop.OutOfSteps → work.new.counter.used ≡ work.new.counter.limit }
 {
     match sides_of(work, history, definition.term) {
-        Some(sides) => learn_ordinal(work, history, hints, f, sides.left),
+        Some(sides) => learn_ordinal(work, history, hints, rules, f, sides.left),
         None => Ok(()),
     }
 }
@@ -154,6 +173,7 @@ fn learn_ordinal(
     work: &mut Work,
     history: &History,
     hints: &Hints,
+    rules: &Rules,
     f: Sym,
     call: TermId,
 ) -> Result<(), Stop>
@@ -165,8 +185,8 @@ fn learn_ordinal(
 {
     ready_histories();
     match owed_ordinal(work, history, call)? {
-        Some(goal) => learn_owed_after(work, history, hints, f, call, goal),
-        None => learn_owed(work, history, hints, f, call),
+        Some(goal) => learn_owed_after(work, history, hints, rules, f, call, goal),
+        None => learn_owed(work, history, hints, rules, f, call),
     }
 }
 
@@ -175,6 +195,7 @@ fn learn_owed_after(
     work: &mut Work,
     history: &History,
     hints: &Hints,
+    rules: &Rules,
     f: Sym,
     call: TermId,
     goal: TermId,
@@ -186,8 +207,8 @@ fn learn_owed_after(
     ensures grows { WorkGrows history.now work.old work.new }
     ensures out { result ≡ Err Stop.OutOfSteps → work.new.counter.used ≡ work.new.counter.limit }
 {
-    learn_line(work, history, hints, f, &[goal])?;
-    learn_owed(work, history, hints, f, call)
+    learn_line(work, history, hints, rules, f, &[goal])?;
+    learn_owed(work, history, hints, rules, f, call)
 }
 
 /// Learns how the measure of a function falls.
@@ -195,6 +216,7 @@ fn learn_owed(
     work: &mut Work,
     history: &History,
     hints: &Hints,
+    rules: &Rules,
     f: Sym,
     call: TermId,
 ) -> Result<(), Stop>
@@ -206,7 +228,7 @@ fn learn_owed(
 {
     ready_histories();
     let goals = owed_falls(work, history, call, !hints.no_arith)?;
-    learn_goals(work, history, hints, f, goals.as_slice())
+    learn_goals(work, history, hints, rules, f, goals.as_slice())
 }
 
 /// Learns these goals.
@@ -214,6 +236,7 @@ fn learn_goals(
     work: &mut Work,
     history: &History,
     hints: &Hints,
+    rules: &Rules,
     f: Sym,
     goals: &[Vec<TermId>],
 ) -> Result<(), Stop>
@@ -224,7 +247,7 @@ fn learn_goals(
     ensures out { result ≡ Err Stop.OutOfSteps → work.new.counter.used ≡ work.new.counter.limit }
 {
     for goal in goals {
-        learn_line(work, history, hints, f, goal.as_slice())?;
+        learn_line(work, history, hints, rules, f, goal.as_slice())?;
     }
     Ok(())
 }
@@ -234,6 +257,7 @@ fn seek_briefly(
     work: &mut Work,
     history: &History,
     hints: &Hints,
+    rules: &Rules,
     plan: Plan,
     goal: &[TermId],
 ) -> Result<Option<u64>, Stop>
@@ -243,7 +267,7 @@ fn seek_briefly(
     ensures grows { WorkGrows history.now work.old work.new }
     ensures out { result ≡ Err Stop.OutOfSteps → work.new.counter.used ≡ work.new.counter.limit }
 {
-    let mut tactic = Waterfall::new(work.bank.alloc(), 7);
+    let mut tactic = Waterfall::new(work.bank.alloc(), rules, 7);
     seek(work, &mut tactic, history, hints, plan, goal)
 }
 
@@ -252,6 +276,7 @@ fn learn_line(
     work: &mut Work,
     history: &History,
     hints: &Hints,
+    rules: &Rules,
     f: Sym,
     goal: &[TermId],
 ) -> Result<(), Stop>
@@ -264,7 +289,7 @@ fn learn_line(
 {
     ready_histories();
     let plan = plan_of_fall(work);
-    match seek_briefly(work, history, hints, plan, goal)? {
+    match seek_briefly(work, history, hints, rules, plan, goal)? {
         Some(line) => {
             remember(work, history, f, line)?;
             Ok(())

@@ -13,13 +13,14 @@ use crate::guessing::{functions_of, guessed_place, has_name, is_declared, recogn
 use crate::order::TURNS;
 use crate::tactic::Waterfall;
 use crate::truth_lines::learn_truth;
-use crate::truths::compared_in;
+use crate::truths::asked_in;
 use nq_bank::{Sym, TermId, ground};
 use nq_history::{Hints, History};
 use nq_kernel::{Prescription, Stop, Work, ready_histories};
 use nq_lines::{Fact, row_fact, sides_of};
 use nq_ready::own_terms;
 use nq_rewrite::{kind_line, one_call, told_kind};
+use nq_rule_table::Rules;
 use nq_search::{Plan, seek};
 
 /// Into how many parts the steps are divided of which the search for one kind gets one.
@@ -54,6 +55,7 @@ pub fn learn_kinds(
     work: &mut Work,
     history: &History,
     hints: &Hints,
+    rules: &Rules,
     goal: &[TermId],
 ) -> Result<(), Stop>
     requires can { CanSearch history.now hints.now work.old }
@@ -61,24 +63,25 @@ pub fn learn_kinds(
     ensures out { result ≡ Err Stop.OutOfSteps → work.new.counter.used ≡ work.new.counter.limit }
 {
     match functions_of(&work.bank, history, goal) {
-        Ok(names) => learn_among(work, history, hints, Lesson::Kind, names.as_slice()),
+        Ok(names) => learn_among(work, history, hints, rules, Lesson::Kind, names.as_slice()),
         Err(_) => Err(Stop::Memory),
     }
 }
 
-/// Learns of which functions of the sides of a goal's equations the values are T or F, the oldest first.
+/// Learns of which functions of the arguments of calls in a goal the values are T or F, the oldest first.
 pub fn learn_truths(
     work: &mut Work,
     history: &History,
     hints: &Hints,
+    rules: &Rules,
     goal: &[TermId],
 ) -> Result<(), Stop>
     requires can { CanSearch history.now hints.now work.old }
     ensures grows { WorkGrows history.now work.old work.new }
     ensures out { result ≡ Err Stop.OutOfSteps → work.new.counter.used ≡ work.new.counter.limit }
 {
-    match compared_in(&work.bank, history, goal) {
-        Ok(names) => learn_among(work, history, hints, Lesson::Truth, names.as_slice()),
+    match asked_in(&work.bank, history, goal) {
+        Ok(names) => learn_among(work, history, hints, rules, Lesson::Truth, names.as_slice()),
         Err(_) => Err(Stop::Memory),
     }
 }
@@ -88,6 +91,7 @@ fn learn_among(
     work: &mut Work,
     history: &History,
     hints: &Hints,
+    rules: &Rules,
     lesson: Lesson,
     names: &[Sym],
 ) -> Result<(), Stop>
@@ -97,7 +101,7 @@ fn learn_among(
 {
     let count = history.len();
     for place in 0..count {
-        learn_at(work, history, hints, lesson, names, place)?;
+        learn_at(work, history, hints, rules, lesson, names, place)?;
     }
     Ok(())
 }
@@ -107,6 +111,7 @@ fn learn_at(
     work: &mut Work,
     history: &History,
     hints: &Hints,
+    rules: &Rules,
     lesson: Lesson,
     names: &[Sym],
     place: u64,
@@ -122,6 +127,7 @@ fn learn_at(
             work,
             history,
             hints,
+            rules,
             lesson,
             names,
             history.entry(place).name,
@@ -135,6 +141,7 @@ fn learn_named(
     work: &mut Work,
     history: &History,
     hints: &Hints,
+    rules: &Rules,
     lesson: Lesson,
     names: &[Sym],
     f: Sym,
@@ -145,7 +152,7 @@ fn learn_named(
     ensures out { result ≡ Err Stop.OutOfSteps → work.new.counter.used ≡ work.new.counter.limit }
 {
     if is_new(work, history, names, f) {
-        learn_lesson(work, history, hints, lesson, f)
+        learn_lesson(work, history, hints, rules, lesson, f)
     } else {
         Ok(())
     }
@@ -156,6 +163,7 @@ fn learn_lesson(
     work: &mut Work,
     history: &History,
     hints: &Hints,
+    rules: &Rules,
     lesson: Lesson,
     f: Sym,
 ) -> Result<(), Stop>
@@ -165,8 +173,8 @@ fn learn_lesson(
     ensures out { result ≡ Err Stop.OutOfSteps → work.new.counter.used ≡ work.new.counter.limit }
 {
     match lesson {
-        Lesson::Kind => learn_kind(work, history, hints, f),
-        Lesson::Truth => learn_truth(work, history, hints, f),
+        Lesson::Kind => learn_kind(work, history, hints, rules, f),
+        Lesson::Truth => learn_truth(work, history, hints, rules, f),
     }
 }
 
@@ -178,7 +186,13 @@ fn is_new(work: &Work, history: &History, names: &[Sym], f: Sym) -> bool
 }
 
 /// Learns of what kind the calls of a function are, if its definition tells it.
-fn learn_kind(work: &mut Work, history: &History, hints: &Hints, f: Sym) -> Result<(), Stop>
+fn learn_kind(
+    work: &mut Work,
+    history: &History,
+    hints: &Hints,
+    rules: &Rules,
+    f: Sym,
+) -> Result<(), Stop>
     requires can { CanSearch history.now hints.now work.old }
     requires function { IsNamed work.old.bank f }
     ensures grows { WorkGrows history.now work.old work.new }
@@ -188,7 +202,7 @@ fn learn_kind(work: &mut Work, history: &History, hints: &Hints, f: Sym) -> Resu
         return learn_size(work, history, f);
     }
     match guessed_place(work, history, f) {
-        Some(place) => learn_placed(work, history, hints, f, place),
+        Some(place) => learn_placed(work, history, hints, rules, f, place),
         None => learn_declared(work, history, f),
     }
 }
@@ -243,6 +257,7 @@ fn learn_placed(
     work: &mut Work,
     history: &History,
     hints: &Hints,
+    rules: &Rules,
     f: Sym,
     place: usize,
 ) -> Result<(), Stop>
@@ -252,7 +267,7 @@ fn learn_placed(
     ensures out { result ≡ Err Stop.OutOfSteps → work.new.counter.used ≡ work.new.counter.limit }
 {
     match recognizer_at(work, history, place) {
-        Some(r) => learn_guessed(work, history, hints, f, r),
+        Some(r) => learn_guessed(work, history, hints, rules, f, r),
         None => Ok(()),
     }
 }
@@ -262,6 +277,7 @@ fn learn_guessed(
     work: &mut Work,
     history: &History,
     hints: &Hints,
+    rules: &Rules,
     f: Sym,
     r: Sym,
 ) -> Result<(), Stop>
@@ -274,7 +290,7 @@ fn learn_guessed(
     own_terms();
     ready_histories();
     match row_fact(work, history, f)? {
-        Some(definition) => learn_defined(work, history, hints, f, r, definition),
+        Some(definition) => learn_defined(work, history, hints, rules, f, r, definition),
         None => Ok(()),
     }
 }
@@ -284,6 +300,7 @@ fn learn_defined(
     work: &mut Work,
     history: &History,
     hints: &Hints,
+    rules: &Rules,
     f: Sym,
     r: Sym,
     definition: Fact,
@@ -296,7 +313,7 @@ fn learn_defined(
     ensures out { result ≡ Err Stop.OutOfSteps → work.new.counter.used ≡ work.new.counter.limit }
 {
     match sides_of(work, history, definition.term) {
-        Some(sides) => learn_call(work, history, hints, f, r, sides.left),
+        Some(sides) => learn_call(work, history, hints, rules, f, r, sides.left),
         None => Ok(()),
     }
 }
@@ -306,6 +323,7 @@ fn learn_call(
     work: &mut Work,
     history: &History,
     hints: &Hints,
+    rules: &Rules,
     f: Sym,
     r: Sym,
     call: TermId,
@@ -319,7 +337,7 @@ fn learn_call(
 {
     ready_histories();
     match one_call(work, history, r, call)? {
-        Some(t) => learn_told(work, history, hints, f, t),
+        Some(t) => learn_told(work, history, hints, rules, f, t),
         None => Ok(()),
     }
 }
@@ -329,6 +347,7 @@ fn learn_told(
     work: &mut Work,
     history: &History,
     hints: &Hints,
+    rules: &Rules,
     f: Sym,
     goal: TermId,
 ) -> Result<(), Stop>
@@ -339,7 +358,7 @@ fn learn_told(
     ensures out { result ≡ Err Stop.OutOfSteps → work.new.counter.used ≡ work.new.counter.limit }
 {
     let plan = plan_of_kind(work);
-    let mut tactic = Waterfall::new(work.bank.alloc(), 7);
+    let mut tactic = Waterfall::new(work.bank.alloc(), rules, 7);
     match seek(work, &mut tactic, history, hints, plan, &[goal])? {
         Some(line) => remember(work, history, f, line),
         None => Ok(()),

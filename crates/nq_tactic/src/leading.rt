@@ -23,6 +23,7 @@ use nq_kernel::{MoveKind, Stop, Work};
 use nq_moves::{Moved, fertilize_move, irrelevant_move, substitute_move};
 use nq_ready::own_terms;
 use nq_rewrite::Learnt;
+use nq_rule_table::Rules;
 use nq_search::{Led, Plan};
 
 /// Leads a goal on by its simplification, with what was learnt in the same proof, and with this plan.
@@ -30,6 +31,7 @@ pub fn lead_simplified(
     work: &mut Work,
     history: &History,
     hints: &Hints,
+    rules: &Rules,
     learnt: &mut Learnt,
     goal: &[TermId],
     plan: Plan,
@@ -40,7 +42,7 @@ pub fn lead_simplified(
     ensures grows { WorkGrows history.now work.old work.new }
     ensures out { result ≡ Err Stop.OutOfSteps → work.new.counter.used ≡ work.new.counter.limit }
 {
-    let way = simplified(work, history, hints, learnt, plan.until, goal)?;
+    let way = simplified(work, history, hints, rules, learnt, plan.until, goal)?;
     Ok(Led {
         way: Way::Simplified(way),
         plan,
@@ -52,6 +54,7 @@ pub fn lead_apart(
     work: &mut Work,
     history: &History,
     hints: &Hints,
+    rules: &Rules,
     goal: &[TermId],
     plan: Plan,
 ) -> Result<Led<Way>, Stop>
@@ -61,7 +64,7 @@ pub fn lead_apart(
     ensures grows { WorkGrows history.now work.old work.new }
     ensures out { result ≡ Err Stop.OutOfSteps → work.new.counter.used ≡ work.new.counter.limit }
 {
-    let way = parted(work, history, hints, plan.until, goal)?;
+    let way = parted(work, history, hints, rules, plan.until, goal)?;
     Ok(Led {
         way: Way::Simplified(way),
         plan,
@@ -86,6 +89,7 @@ pub fn lead_refuted(
     work: &mut Work,
     history: &History,
     hints: &Hints,
+    rules: &Rules,
     goal: &[TermId],
     plan: Plan,
 ) -> Result<Option<Led<Way>>, Stop>
@@ -98,7 +102,7 @@ pub fn lead_refuted(
     own_terms();
     match truth_line(work, history, goal)? {
         Some(line) => Ok(Some(refuted_by(work, history, goal, line, plan))),
-        None => lead_by_arithmetic(work, history, hints, goal, plan),
+        None => lead_by_arithmetic(work, history, hints, rules, goal, plan),
     }
 }
 
@@ -107,6 +111,7 @@ fn lead_by_arithmetic(
     work: &mut Work,
     history: &History,
     hints: &Hints,
+    rules: &Rules,
     goal: &[TermId],
     plan: Plan,
 ) -> Result<Option<Led<Way>>, Stop>
@@ -119,7 +124,7 @@ fn lead_by_arithmetic(
 {
     match number_line(work, history, hints, goal)? {
         Some(line) => Ok(Some(refuted_by(work, history, goal, line, plan))),
-        None => lead_by_rules(work, history, hints, goal, plan),
+        None => lead_by_rules(work, history, hints, rules, goal, plan),
     }
 }
 
@@ -128,6 +133,7 @@ fn lead_by_rules(
     work: &mut Work,
     history: &History,
     hints: &Hints,
+    rules: &Rules,
     goal: &[TermId],
     plan: Plan,
 ) -> Result<Option<Led<Way>>, Stop>
@@ -141,7 +147,7 @@ fn lead_by_rules(
     if !plan.simplified {
         return Ok(None);
     }
-    match tested_line(work, history, hints, goal)? {
+    match tested_line(work, history, hints, rules, goal)? {
         Some(line) => Ok(Some(refuted_by(work, history, goal, line, plan))),
         None => Ok(None),
     }

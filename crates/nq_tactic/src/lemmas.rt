@@ -18,6 +18,7 @@ use nq_history::{Hints, History};
 use nq_kernel::{Stop, Work, ready_histories};
 use nq_lines::{Fact, cut, deny};
 use nq_reduce::with_more;
+use nq_rule_table::Rules;
 use nq_search::{Plan, seek};
 
 /// A round of the search.
@@ -71,6 +72,7 @@ fn seek_rounds(
     work: &mut Work,
     history: &History,
     hints: &Hints,
+    rules: &Rules,
     goal: &[TermId],
 ) -> Result<Option<u64>, Stop>
     requires can { CanSearch history.now hints.now work.old }
@@ -80,8 +82,8 @@ fn seek_rounds(
     ensures out { result ≡ Err Stop.OutOfSteps → work.new.counter.used ≡ work.new.counter.limit }
 {
     ready_histories();
-    learn_kinds(work, history, hints, goal)?;
-    seek_after_kinds(work, history, hints, goal)
+    learn_kinds(work, history, hints, rules, goal)?;
+    seek_after_kinds(work, history, hints, rules, goal)
 }
 
 /// The same, where it is known too which of its functions have truth values.
@@ -89,6 +91,7 @@ fn seek_after_kinds(
     work: &mut Work,
     history: &History,
     hints: &Hints,
+    rules: &Rules,
     goal: &[TermId],
 ) -> Result<Option<u64>, Stop>
     requires can { CanSearch history.now hints.now work.old }
@@ -98,8 +101,8 @@ fn seek_after_kinds(
     ensures out { result ≡ Err Stop.OutOfSteps → work.new.counter.used ≡ work.new.counter.limit }
 {
     ready_histories();
-    learn_truths(work, history, hints, goal)?;
-    seek_after_falls(work, history, hints, goal)
+    learn_truths(work, history, hints, rules, goal)?;
+    seek_after_falls(work, history, hints, rules, goal)
 }
 
 /// The same, where it is known too how the measures of its functions fall.
@@ -107,6 +110,7 @@ fn seek_after_falls(
     work: &mut Work,
     history: &History,
     hints: &Hints,
+    rules: &Rules,
     goal: &[TermId],
 ) -> Result<Option<u64>, Stop>
     requires can { CanSearch history.now hints.now work.old }
@@ -116,8 +120,8 @@ fn seek_after_falls(
     ensures out { result ≡ Err Stop.OutOfSteps → work.new.counter.used ≡ work.new.counter.limit }
 {
     ready_histories();
-    learn_falls(work, history, hints, goal)?;
-    let mut tactic = Waterfall::new(work.bank.alloc(), 0);
+    learn_falls(work, history, hints, rules, goal)?;
+    let mut tactic = Waterfall::new(work.bank.alloc(), rules, 0);
     seek_widening(work, &mut tactic, history, hints, 0, goal)
 }
 
@@ -125,7 +129,7 @@ fn seek_after_falls(
 #[cycle(rounds)]
 fn seek_widening(
     work: &mut Work,
-    tactic: &mut Waterfall,
+    tactic: &mut Waterfall<'_>,
     history: &History,
     hints: &Hints,
     number: u32,
@@ -148,7 +152,7 @@ fn seek_widening(
 #[cycle(rounds)]
 fn seek_round(
     work: &mut Work,
-    tactic: &mut Waterfall,
+    tactic: &mut Waterfall<'_>,
     history: &History,
     hints: &Hints,
     number: u32,
@@ -178,7 +182,7 @@ fn seek_round(
 #[cycle(rounds)]
 fn seek_again(
     work: &mut Work,
-    tactic: &mut Waterfall,
+    tactic: &mut Waterfall<'_>,
     history: &History,
     hints: &Hints,
     number: u32,
@@ -203,6 +207,7 @@ pub fn seek_lemma(
     work: &mut Work,
     history: &History,
     hints: &Hints,
+    rules: &Rules,
     goal: TermId,
 ) -> Result<Option<u64>, Stop>
     requires can { CanSearch history.now hints.now work.old }
@@ -211,7 +216,7 @@ pub fn seek_lemma(
     ensures grows { WorkGrows history.now work.old work.new }
     ensures out { result ≡ Err Stop.OutOfSteps → work.new.counter.used ≡ work.new.counter.limit }
 {
-    seek_under(work, history, hints, 0, &[goal])
+    seek_under(work, history, hints, rules, 0, &[goal])
 }
 
 /// Seeks a line of a goal under the instances of the hints from a place on.
@@ -220,6 +225,7 @@ fn seek_under(
     work: &mut Work,
     history: &History,
     hints: &Hints,
+    rules: &Rules,
     from: usize,
     goal: &[TermId],
 ) -> Result<Option<u64>, Stop>
@@ -231,11 +237,11 @@ fn seek_under(
 {
     ready_histories();
     if from >= hints.instances.len() {
-        return seek_rounds(work, history, hints, goal);
+        return seek_rounds(work, history, hints, rules, goal);
     }
     match used(work, history, &hints.instances[from])? {
-        Some(fact) => seek_beside(work, history, hints, from + 1, goal, fact),
-        None => seek_under(work, history, hints, from + 1, goal),
+        Some(fact) => seek_beside(work, history, hints, rules, from + 1, goal, fact),
+        None => seek_under(work, history, hints, rules, from + 1, goal),
     }
 }
 
@@ -245,6 +251,7 @@ fn seek_beside(
     work: &mut Work,
     history: &History,
     hints: &Hints,
+    rules: &Rules,
     from: usize,
     goal: &[TermId],
     fact: Fact,
@@ -259,7 +266,7 @@ fn seek_beside(
     ready_histories();
     let denied = deny(work, history, fact.term)?;
     let longer = with_more(work, denied, goal)?;
-    match seek_under(work, history, hints, from, longer.as_slice())? {
+    match seek_under(work, history, hints, rules, from, longer.as_slice())? {
         Some(line) => {
             let line = cut(work, history, fact.line, line, fact.term)?;
             Ok(Some(line))

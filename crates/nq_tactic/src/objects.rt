@@ -17,6 +17,7 @@ use nq_history::{Hints, History};
 use nq_kernel::{Stop, Work};
 use nq_lines::{cut, equate, falsity, from_equal_false, true_or_false};
 use nq_rewrite::{is_constructor, known_recognizer, rewrite};
+use nq_rule_table::Rules;
 
 /// The line of a term, by the line that its equation with F is F.
 fn line_apart(
@@ -45,6 +46,7 @@ fn line_of_object(
     work: &mut Work,
     history: &History,
     hints: &Hints,
+    rules: &Rules,
     t: TermId,
 ) -> Result<Option<u64>, Stop>
     requires stands { WorkStands history.now work.old }
@@ -56,7 +58,7 @@ fn line_of_object(
 {
     let no = falsity(work, history)?;
     let equation = equate(work, history, t, no)?;
-    let found = rewrite(work, history, hints, &[], equation)?;
+    let found = rewrite(work, history, hints, rules, &[], equation)?;
     if found.0 == no {
         let line = line_apart(work, history, t, equation, found.1)?;
         Ok(Some(line))
@@ -85,6 +87,7 @@ fn plain_line(
     work: &mut Work,
     history: &History,
     hints: &Hints,
+    rules: &Rules,
     goal: &[TermId],
     at: usize,
 ) -> Result<Option<u64>, Stop>
@@ -99,7 +102,7 @@ fn plain_line(
     if is_call_of(&work.bank, ground::EQUAL, goal[at]) {
         truth_value_line(work, history, goal, at)
     } else {
-        circular_line(work, history, hints, goal, at)
+        circular_line(work, history, hints, rules, goal, at)
     }
 }
 
@@ -109,6 +112,7 @@ pub fn object_line(
     work: &mut Work,
     history: &History,
     hints: &Hints,
+    rules: &Rules,
     goal: &[TermId],
     at: usize,
 ) -> Result<Option<u64>, Stop>
@@ -121,8 +125,8 @@ pub fn object_line(
     ensures out { result ≡ Err Stop.OutOfSteps → work.new.counter.used ≡ work.new.counter.limit }
 {
     if has_kind(work, history, goal[at]) {
-        line_of_object(work, history, hints, goal[at])
+        line_of_object(work, history, hints, rules, goal[at])
     } else {
-        plain_line(work, history, hints, goal, at)
+        plain_line(work, history, hints, rules, goal, at)
     }
 }

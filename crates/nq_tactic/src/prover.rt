@@ -7,6 +7,7 @@ ghost use Rattle.nq_fragments.specs.Fragments.{IsInNoFragment};
 ghost use Rattle.nq_kernel.specs.Growing.{WorkGrows};
 ghost use Rattle.nq_kernel.specs.Proving.{HasGround, IsFirstPass, IsTold};
 ghost use Rattle.nq_lines.specs.Lines.{IsTermIn};
+ghost use Rattle.nq_rule_table.specs.Tables.{WasTaught};
 ghost use Rattle.nq_search.specs.Goals.{CanSearch};
 
 use crate::lemmas::seek_lemma;
@@ -15,29 +16,37 @@ use nq_hinted::prove_hinted;
 use nq_history::{Hints, History};
 use nq_kernel::{Proof, Prover, Stop, Verdict, Work, ready_histories};
 use nq_quick::quick;
-use std::alloc::AllocError;
+use nq_rule_table::Rules;
+use std::alloc::{AllocError, Global};
 
-/// Proves lemmas by the first pass, and where that doesn't prove them by a search. It keeps nothing of a history.
-#[derive(Clone, Copy)]
-pub struct Searcher;
+/// Proves lemmas by the first pass, and where that doesn't prove them by a search. It keeps the rules of the history.
+#[derive(Drop)]
+pub struct Searcher {
+    /// The rules of class REWRITE of the history.
+    pub rules: Rules,
+}
 
 impl Searcher {
-    /// The prover. It has learnt any history.
-    pub fn new() -> Searcher
-        ensures { HasGround (λ _. Unit {0}) }
+    /// The prover. It has learnt the ground history.
+    pub fn new(alloc: Global) -> Searcher
+        ensures { HasGround (WasTaught result.rules) }
     {
-        Searcher
+        Searcher {
+            rules: Rules::new(alloc),
+        }
     }
 }
 
 impl Prover for Searcher {
-    ghost has_learnt = { λ _ _. Unit {0} };
+    ghost has_learnt = { λ searcher entries. WasTaught searcher.rules entries };
 
     fn learn(&mut self, bank: &Bank, history: &History) -> Result<(), AllocError> {
-        Ok(())
+        self.rules.learn(bank, history)
     }
 
-    fn forget(&mut self, kept: u64) {}
+    fn forget(&mut self, kept: u64) {
+        self.rules.forget(kept);
+    }
 
     fn prove(
         &mut self,
@@ -49,7 +58,7 @@ impl Prover for Searcher {
         ready_histories();
         match quick(work, history, goal)? {
             Some((way, line)) => Ok(Verdict::Proved(line, Proof::First(way))),
-            None => hinted(work, history, goal, hints),
+            None => hinted(work, history, goal, hints, &self.rules),
         }
     }
 }
@@ -60,6 +69,7 @@ fn hinted(
     history: &History,
     goal: TermId,
     hints: &Hints,
+    rules: &Rules,
 ) -> Result<Verdict, AllocError>
     requires can { CanSearch history.now hints.now work.old }
     requires goal { IsTermIn history.now work.old goal }
@@ -73,7 +83,7 @@ fn hinted(
     match prove_hinted(work, history, hints, goal)? {
         // the trace of the proof shows no goal
         Some(line) => Ok(Verdict::Proved(line, Proof::Waterfall(Vec::new(alloc)))),
-        None => searched(work, history, goal, hints),
+        None => searched(work, history, goal, hints, rules),
     }
 }
 
@@ -83,6 +93,7 @@ fn searched(
     history: &History,
     goal: TermId,
     hints: &Hints,
+    rules: &Rules,
 ) -> Result<Verdict, AllocError>
     requires can { CanSearch history.now hints.now work.old }
     requires goal { IsTermIn history.now work.old goal }
@@ -92,7 +103,7 @@ fn searched(
     ensures first { IfOk result (λ v. IsFirstPass (events_at work.old.bank history.now) (term_at work.old.bank goal) v) }
 {
     let alloc = work.bank.alloc();
-    match seek_lemma(work, history, hints, goal) {
+    match seek_lemma(work, history, hints, rules, goal) {
         // the trace of the proof shows no goal yet
         Ok(Some(line)) => Ok(Verdict::Proved(line, Proof::Waterfall(Vec::new(alloc)))),
         Ok(None) => Ok(Verdict::NotYet(Vec::new(alloc))),

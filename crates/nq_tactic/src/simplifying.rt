@@ -12,6 +12,7 @@ use nq_kernel::{Stop, Work};
 use nq_literal::LiteralRewriter;
 use nq_ready::own_terms;
 use nq_rewrite::Learnt;
+use nq_rule_table::Rules;
 use nq_simplify::{Simplified, make_basis, simplify_goal};
 use std::mem;
 
@@ -34,10 +35,11 @@ fn until_of(work: &Work, end: u64) -> u64 {
 }
 
 /// Simplifies a goal, with what was learnt in the same proof, in a plan that ends at a count of used steps.
-pub fn simplified(
+pub fn simplified<'a>(
     work: &mut Work,
     history: &History,
-    hints: &Hints,
+    hints: &'a Hints,
+    rules: &'a Rules,
     learnt: &mut Learnt,
     end: u64,
     goal: &[TermId],
@@ -51,7 +53,7 @@ pub fn simplified(
     own_terms();
     let basis = make_basis(work, history)?;
     let until = until_of(work, end);
-    let mut rewriter = LiteralRewriter::new(work.bank.alloc(), hints, until);
+    let mut rewriter = LiteralRewriter::new(work.bank.alloc(), hints, rules, until);
     mem::swap(learnt, &mut rewriter.learnt);
     let simplified = simplify_goal(work, history, &basis, &mut rewriter, goal, ROUNDS);
     mem::swap(learnt, &mut rewriter.learnt);
@@ -63,6 +65,7 @@ pub fn parted(
     work: &mut Work,
     history: &History,
     hints: &Hints,
+    rules: &Rules,
     end: u64,
     goal: &[TermId],
 ) -> Result<Simplified, Stop>
@@ -76,6 +79,6 @@ pub fn parted(
     let light = light_hints(work, history, hints)?;
     let basis = make_basis(work, history)?;
     let until = until_of(work, end);
-    let mut rewriter = LiteralRewriter::new(work.bank.alloc(), &light, until);
+    let mut rewriter = LiteralRewriter::new(work.bank.alloc(), &light, rules, until);
     simplify_goal(work, history, &basis, &mut rewriter, goal, ROUNDS)
 }

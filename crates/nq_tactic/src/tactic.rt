@@ -17,12 +17,15 @@ use nq_bank::TermId;
 use nq_history::{Hints, History};
 use nq_kernel::{MoveKind, Stop, Work};
 use nq_rewrite::Learnt;
+use nq_rule_table::Rules;
 use nq_search::{Led, Plan, Tactic};
 use std::alloc::Global;
 
 /// The waterfall: a goal is simplified, refuted by linear arithmetic, led on by moves, and by inductions.
 #[derive(Drop)]
-pub struct Waterfall {
+pub struct Waterfall<'a> {
+    /// The rules of the history.
+    rules: &'a Rules,
     /// The share, in tenths, of the steps that a way gets where others follow.
     share: u64,
     /// What the rewritings learnt.
@@ -31,10 +34,12 @@ pub struct Waterfall {
     remembered: Remembered,
 }
 
-impl Waterfall {
-    /// The tactic, which gives a way this share, in tenths, of the steps that are left, where others follow.
-    pub fn new(alloc: Global, share: u64) -> Waterfall {
+impl<'a> Waterfall<'a> {
+    /// The tactic, which rewrites by these rules, and gives a way this share, in tenths, of the steps that are left, where others
+    /// follow.
+    pub fn new(alloc: Global, rules: &'a Rules, share: u64) -> Waterfall<'a> {
         Waterfall {
+            rules,
             share,
             learnt: Learnt::new(alloc),
             remembered: Remembered::new(alloc),
@@ -85,7 +90,7 @@ impl Waterfall {
         ensures out { result ≡ Err Stop.OutOfSteps → work.new.counter.used ≡ work.new.counter.limit }
     {
         let next = self.plan_after_parting(work, plan);
-        let led = lead_apart(work, history, hints, goal, next)?;
+        let led = lead_apart(work, history, hints, self.rules, goal, next)?;
         Ok(Some(led))
     }
 
@@ -105,7 +110,15 @@ impl Waterfall {
         ensures out { result ≡ Err Stop.OutOfSteps → work.new.counter.used ≡ work.new.counter.limit }
     {
         let next = self.plan_after_simplification(work, plan);
-        let led = lead_simplified(work, history, hints, &mut self.learnt, goal, next)?;
+        let led = lead_simplified(
+            work,
+            history,
+            hints,
+            self.rules,
+            &mut self.learnt,
+            goal,
+            next,
+        )?;
         Ok(Some(led))
     }
 
@@ -128,7 +141,7 @@ impl Waterfall {
         match choice {
             Choice::Part => self.part(work, history, hints, plan, goal),
             Choice::Simplify => self.simplify(work, history, hints, plan, goal),
-            Choice::Refute => lead_refuted(work, history, hints, goal, plan),
+            Choice::Refute => lead_refuted(work, history, hints, self.rules, goal, plan),
             Choice::Hint => {
                 let next = plan_after_induction(work, plan, self.share);
                 lead_hinted(work, history, hints, goal, next)
@@ -195,7 +208,7 @@ fn is_pointless(
     }
 }
 
-impl Tactic for Waterfall {
+impl<'a> Tactic for Waterfall<'a> {
     type Way = Way;
 
     ghost nexts_of = { nexts_of };
@@ -210,7 +223,10 @@ impl Tactic for Waterfall {
         self.remembered.keep(goal, line);
     }
 
-    fn nexts(way: &Way) -> &[Vec<TermId>] {
+    // with a lifetime of the tactic's own the check does not take over the clause of the trait
+    fn nexts(way: &Way) -> &[Vec<TermId>]
+        ensures { result.now ≡ nexts_of way.now }
+    {
         nexts_of(way)
     }
 

@@ -15,24 +15,37 @@ use nq_history::{Hints, History};
 use nq_kernel::{Stop, Work, ready_histories};
 use nq_lines::{Fact, deny, equate, instance, row_fact, sides_of, truth};
 use nq_ready::own_terms;
+use nq_rule_table::Rules;
 use nq_search::seek;
 
 /// Learns that the calls of a function are T where they are true, if its definition tells it.
-pub fn learn_truth(work: &mut Work, history: &History, hints: &Hints, f: Sym) -> Result<(), Stop>
+pub fn learn_truth(
+    work: &mut Work,
+    history: &History,
+    hints: &Hints,
+    rules: &Rules,
+    f: Sym,
+) -> Result<(), Stop>
     requires can { CanSearch history.now hints.now work.old }
     requires function { IsNamed work.old.bank f }
     ensures grows { WorkGrows history.now work.old work.new }
     ensures out { result ≡ Err Stop.OutOfSteps → work.new.counter.used ≡ work.new.counter.limit }
 {
     if may_be_truth(work, history, f) {
-        learn_defined(work, history, hints, f)
+        learn_defined(work, history, hints, rules, f)
     } else {
         Ok(())
     }
 }
 
 /// The same, where it is defined.
-fn learn_defined(work: &mut Work, history: &History, hints: &Hints, f: Sym) -> Result<(), Stop>
+fn learn_defined(
+    work: &mut Work,
+    history: &History,
+    hints: &Hints,
+    rules: &Rules,
+    f: Sym,
+) -> Result<(), Stop>
     requires can { CanSearch history.now hints.now work.old }
     requires function { IsNamed work.old.bank f }
     ensures grows { WorkGrows history.now work.old work.new }
@@ -41,7 +54,7 @@ fn learn_defined(work: &mut Work, history: &History, hints: &Hints, f: Sym) -> R
     own_terms();
     ready_histories();
     match row_fact(work, history, f)? {
-        Some(definition) => learn_by_definition(work, history, hints, f, definition),
+        Some(definition) => learn_by_definition(work, history, hints, rules, f, definition),
         None => Ok(()),
     }
 }
@@ -51,6 +64,7 @@ fn learn_by_definition(
     work: &mut Work,
     history: &History,
     hints: &Hints,
+    rules: &Rules,
     f: Sym,
     definition: Fact,
 ) -> Result<(), Stop>
@@ -61,7 +75,7 @@ fn learn_by_definition(
     ensures out { result ≡ Err Stop.OutOfSteps → work.new.counter.used ≡ work.new.counter.limit }
 {
     match sides_of(work, history, definition.term) {
-        Some(sides) => learn_call(work, history, hints, f, sides.left),
+        Some(sides) => learn_call(work, history, hints, rules, f, sides.left),
         None => Ok(()),
     }
 }
@@ -71,6 +85,7 @@ fn learn_call(
     work: &mut Work,
     history: &History,
     hints: &Hints,
+    rules: &Rules,
     f: Sym,
     call: TermId,
 ) -> Result<(), Stop>
@@ -82,7 +97,7 @@ fn learn_call(
 {
     ready_histories();
     let goal = truth_goal(work, history, call)?;
-    learn_goal(work, history, hints, f, goal.as_slice())
+    learn_goal(work, history, hints, rules, f, goal.as_slice())
 }
 
 /// The goal that a term is T where it is true.
@@ -107,6 +122,7 @@ fn learn_goal(
     work: &mut Work,
     history: &History,
     hints: &Hints,
+    rules: &Rules,
     f: Sym,
     goal: &[TermId],
 ) -> Result<(), Stop>
@@ -117,7 +133,7 @@ fn learn_goal(
     ensures out { result ≡ Err Stop.OutOfSteps → work.new.counter.used ≡ work.new.counter.limit }
 {
     let plan = plan_of_kind(work);
-    let mut tactic = Waterfall::new(work.bank.alloc(), 7);
+    let mut tactic = Waterfall::new(work.bank.alloc(), rules, 7);
     match seek(work, &mut tactic, history, hints, plan, goal)? {
         Some(line) => remember(work, history, f, line),
         None => Ok(()),

@@ -27,7 +27,7 @@ const TRUTH_FUNCTIONS: [Sym; 14] = [
     ground::NLISTP,
 ];
 
-/// The functions that only ask of their arguments whether they are F.
+/// The functions that only ask of their arguments whether they are F, and IF, which gives its branches back.
 const CONNECTIVES: [Sym; 6] = [
     ground::IF,
     ground::NOT,
@@ -83,13 +83,13 @@ fn add_function(bank: &Bank, names: &mut Vec<Sym>, t: TermId) -> Result<(), Allo
     }
 }
 
-/// Does a call of this function say nothing of the values of its arguments but whether they are F?
+/// Is this function a connective, or IF?
 fn is_connective(f: Sym) -> bool {
     has_name(&CONNECTIVES, f)
 }
 
-/// Adds the functions of the arguments of a term, if it is an equation or another call that is no connective.
-fn add_sides(bank: &Bank, names: &mut Vec<Sym>, t: TermId) -> Result<(), AllocError>
+/// Adds the functions of the arguments of a call, if it is of no connective.
+fn add_arguments(bank: &Bank, names: &mut Vec<Sym>, t: TermId) -> Result<(), AllocError>
     requires { Stands bank.now t }
 {
     if let Node::App(f, _) = bank.node(t) {
@@ -102,13 +102,13 @@ fn add_sides(bank: &Bank, names: &mut Vec<Sym>, t: TermId) -> Result<(), AllocEr
     Ok(())
 }
 
-/// Adds the functions of the sides of the equations in a term.
-fn add_compared(bank: &Bank, names: &mut Vec<Sym>, t: TermId) -> Result<(), AllocError>
+/// Adds the functions of the arguments of the calls in a term that ask for more of them than whether they are F.
+fn add_asked(bank: &Bank, names: &mut Vec<Sym>, t: TermId) -> Result<(), AllocError>
     requires { Stands bank.now t }
 {
-    add_sides(bank, names, t)?;
+    add_arguments(bank, names, t)?;
     for a in bank.args(t) {
-        add_compared(bank, names, *a)?;
+        add_asked(bank, names, *a)?;
     }
     Ok(())
 }
@@ -150,17 +150,14 @@ fn add_opened(
 /// How many functions are opened in search of others.
 const OPENED_LIMIT: usize = 20;
 
-/// The functions of the sides of the equations in a goal, and of the leaves of the bodies of such.
-pub fn compared_in(
-    bank: &Bank,
-    history: &History,
-    goal: &[TermId],
-) -> Result<Vec<Sym>, AllocError> {
+/// The functions of the arguments of the calls in a goal that ask for more of them than whether they are F, and of the leaves of the
+/// bodies of such.
+pub fn asked_in(bank: &Bank, history: &History, goal: &[TermId]) -> Result<Vec<Sym>, AllocError> {
     let mut names = Vec::new(bank.alloc());
     for t in goal {
         if t.0 < bank.len() {
             if bank.size(*t) < BODY_LIMIT {
-                add_compared(bank, &mut names, *t)?;
+                add_asked(bank, &mut names, *t)?;
             }
         }
     }

@@ -134,7 +134,7 @@ fn run_status<S: Source, O: Sink, L: Sink>(
     ensures range { result ≤ 7 }
     ensures not_words { result ≡ 2 → ⊥ }
 {
-    let mut prover = Searcher::new();
+    let mut prover = Searcher::new(alloc);
     match run_events(alloc, src, comment, log, logging, &mut prover, steps) {
         Ok(ended) => ended.status(),
         Err(fault) => fault.status(),

@@ -77,7 +77,7 @@ fn run_text(alloc: Global, text: Vec<u8>) -> Result<Ended, SinkFault>
     let mut src = SureSource::new(text);
     let mut comment = SureSink::new(alloc);
     let mut log = SureSink::new(alloc);
-    let mut prover = Searcher::new();
+    let mut prover = Searcher::new(alloc);
     match run_events(
         alloc,
         &mut src,

@@ -9,7 +9,7 @@ pub returns-in-Ok-clause-run : goal.returns-in-Ok-clause-run
 returns-in-Ok-clause-run g c =
     ended_run c.args.steps c.args.logging _ _ c.in-Ok.ended.fault (totals_in c.in-Ok.ended.counts) _ _ c.status.result c.status.ensures c.in-Ok.ensures.finished
 
-pub returns-in-Err-clause-run : goal.returns-in-Err-clause-run
-returns-in-Err-clause-run g c =
+pub returns-clause-run : goal.returns-clause-run
+returns-clause-run g c =
     fault_run c.args.steps c.args.logging _ _ _ _ c.in-Err.fault c.status-in-Err.result c.status-in-Err.ensures
     (λ is. c.in-Err.ensures.read (ap (λ (z : RunFault). Err z) is)) (λ is. c.in-Err.ensures.too_long (ap (λ (z : RunFault). Err z) is)) c.in-Err.ensures.stopped

@@ -180,6 +180,61 @@ fn a_lemma_may_speak_of_a_shell(rt: HostRuntime) -> Result<(), Fail> {
     Ok(())
 }
 
+/// A shell without a base, whose parts have restrictions of several kinds.
+const NODES: &[u8] =
+    b"(ADD-SHELL NODE NIL NODEP ((LEFT (NONE-OF) ZERO) (MARK (ONE-OF LITATOM TRUEP) TRUE) (RIGHT (NONE-OF NUMBERP LISTP) FALSE)))\n";
+
+#[test]
+fn what_is_structural_by_a_users_shell_needs_no_step(rt: HostRuntime) -> Result<(), Fail> {
+    for (rest, answer) in [
+        // a stack that is not the base has a smaller one; without a test for either the obligation is not derivable
+        (
+            b"(X) (IF (STACKP X) (IF (EQUAL X (EMPTY-STACK)) 0 (H (POP X))) 0)".as_slice(),
+            b"Accepted by (COUNT X).".as_slice(),
+        ),
+        (
+            b"(X) (IF (EQUAL (EMPTY-STACK) X) 0 (IF (STACKP X) (H (POP X)) 0))",
+            b"Accepted by (COUNT X).",
+        ),
+        (
+            b"(X) (IF (STACKP X) (H (POP X)) 0)",
+            b"Tried (COUNT X): (NOT (STACKP X)) OR (ORD-LESSP (COUNT (POP X)) (COUNT X)) out of steps.\n   Refused 64 NoMeasure.",
+        ),
+        (
+            b"(X) (IF (EQUAL X (EMPTY-STACK)) 0 (H (POP X)))",
+            b"Tried (COUNT X): (NOT (NOT (EQUAL X (EMPTY-STACK)))) OR (ORD-LESSP (COUNT (POP X)) (COUNT X)) out of steps.\n   Refused 64 NoMeasure.",
+        ),
+        // parts of each restriction, and nests of them under a test at each level, without which they need not be smaller
+        (
+            b"(X) (IF (NODEP X) (PLUS (H (LEFT X)) (PLUS (H (MARK X)) (H (RIGHT X)))) 0)",
+            b"Accepted by (COUNT X).",
+        ),
+        (
+            b"(X) (IF (NODEP X) (IF (NODEP (LEFT X)) (H (RIGHT (LEFT X))) 0) 0)",
+            b"Accepted by (COUNT X).",
+        ),
+        (
+            b"(X) (IF (NODEP X) (H (RIGHT (LEFT X))) 0)",
+            b"Tried (COUNT X): (NOT (NODEP X)) OR (ORD-LESSP (COUNT (RIGHT (LEFT X))) (COUNT X)) out of steps.\n   Refused 64 NoMeasure.",
+        ),
+        // the formal that is structural
+        (
+            b"(X Y) (IF (NODEP Y) (H X (RIGHT Y)) X)",
+            b"Accepted by (COUNT Y).",
+        ),
+    ] {
+        let text = joined(rt.alloc(), &[STACKS, NODES, b"(DEFN H ", rest, b")"])?;
+        let report = joined(rt.alloc(), &[b"3. DEFN H\n   ", answer, b"\nForms 3, "])?;
+        let given = Given {
+            words: &["nqthm", "run", "--steps", "1"],
+            ..Given::run(text.as_slice())
+        };
+        let answered = answer_to(rt.alloc(), given)?;
+        assert!(rt; has_part(answered.out.as_slice(), report.as_slice()));
+    }
+    Ok(())
+}
+
 /// So many shells without parts, under names of their own.
 fn many_shells(alloc: Global, count: u64) -> Result<Vec<u8>, AllocError> {
     let mut text = Vec::new(alloc);

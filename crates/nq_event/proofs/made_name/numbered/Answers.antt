@@ -1,4 +1,4 @@
-use Rattle.std.proofs.Common.{◌≡◌, ◌++◌, true, false, refl, sym, ap, ◌∙◌, subst, arith}
+use Rattle.std.proofs.Common.{◌≡◌, ◌++◌, true, false, sym, ap, ◌∙◌, subst, arith}
 use Rattle.std.specs.Prelude.{decimal, IfOk}
 use Rattle.nq_logic.specs.Names.{is_in_use}
 use Rattle.nq_bank.specs.Content.{NamesText, text_at}
@@ -9,7 +9,9 @@ use Rattle.nq_event.proofs.NumberedLemmas.{numbered_used, numbered_free, numbere
 use Rattle.nq_event.proofs.made_name.numbered.Goals as goal
 
 pub loop-more-init : goal.loop-more-init
-loop-more-init c = record { grows = Grows-refl c.args.bank.now; stands = c.requires.history; sum = omega (arith, c.requires.count); is = refl }
+loop-more-init c =
+    let untried = c.in_ok-number.ensures in
+    record { grows = Grows-refl c.args.bank.now; stands = c.requires.history; sum = omega (arith, c.requires.count, untried.most); is = untried.same }
 
 pub in_use-requires-clause-history : goal.in_use-requires-clause-history
 in_use-requires-clause-history c = history_grown c.loop-more.bank c.numbered_name.new.bank c.numbered_name.ensures.grows c.args.history.now c.loop-more.invariant.stands

@@ -3,3 +3,9 @@ use Rattle.nq_schemes.proofs.schemes.scheme_of_goal.Goals as goal
 
 pub returns-in_err-calls-clause-grows : goal.returns-in_err-calls-clause-grows
 returns-in_err-calls-clause-grows c = WorkGrows-refl c.args.history.now c.args.work.now c.requires.stands
+
+pub returns-in_err-is_suggested-clause-grows : goal.returns-in_err-is_suggested-clause-grows
+returns-in_err-is_suggested-clause-grows c = WorkGrows-refl c.args.history.now c.args.work.now c.requires.stands
+
+pub returns-then-not-branch-clause-grows : goal.returns-then-not-branch-clause-grows
+returns-then-not-branch-clause-grows c = WorkGrows-refl c.args.history.now c.args.work.now c.requires.stands

@@ -1,5 +1,5 @@
 use Rattle.nq_kernel.proofs.GrowingLemmas.{WorkGrows-refl}
 use Rattle.nq_giving_up.proofs.bounded.BoundedMover.lead.Goals as goal
 
-pub returns-then-used-self-clause-grows : goal.returns-then-used-self-clause-grows
-returns-then-used-self-clause-grows g c = WorkGrows-refl c.args.history.now c.args.work.now c.requires.ready.stands
+pub returns-then-used-bound_below-clause-grows : goal.returns-then-used-bound_below-clause-grows
+returns-then-used-bound_below-clause-grows g c = WorkGrows-refl c.args.history.now c.args.work.now c.requires.ready.stands

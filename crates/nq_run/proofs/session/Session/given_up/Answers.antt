@@ -23,12 +23,12 @@ returns c =
     let failing = c.in_ok-given_up.given_up.failing in
     let same = same_session old c.in_ok-given_up.given_up.bank c.in_ok-given_up.ensures.bank in
     record {
-      answer = answer_by form text failing;
+      answer = answer_by text failing;
       tried =
           given_up_tried c.args.given.steps (history_of old) form (hints_at old.bank c.args.lemma.hints.now) (term_at old.bank c.args.lemma.goal) text failing c.requires.outside c.requires.not_false c.requires.text
           c.in_ok-given_up.ensures.told;
-      not_taken = never_taken form text failing;
+      not_taken = never_taken text failing;
       untaken =
-          subst (λ (a : Answer). IsUntaken old c.args.given.mark a c.untaken.result) c.in_ok-answer.ensures
-          (subst (λ (s : Session). IsUntaken s c.args.given.mark (answer_of c.in_ok-answer.answer) c.untaken.result) same c.untaken.ensures);
+          subst (λ (a : Answer). IsUntaken old c.args.given.mark a c.untaken.result) c.answer_by-answer.ensures
+          (subst (λ (s : Session). IsUntaken s c.args.given.mark (answer_of c.answer_by-answer.result) c.untaken.result) same c.untaken.ensures);
     }

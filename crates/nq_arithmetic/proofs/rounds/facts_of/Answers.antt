@@ -4,7 +4,7 @@ use Rattle.nq_kernel.proofs.GrowingLemmas.{WorkGrows-refl, WorkGrows-trans}
 use Rattle.nq_lines.specs.Lines.{IsTermIn}
 use Rattle.nq_arithmetic.proofs.Lemmas.{all_grown, instances_grown}
 use Rattle.nq_arithmetic.specs.Claims.{IsAssumptionIn}
-use Rattle.nq_arithmetic.proofs.gathering.facts_of.Goals as goal
+use Rattle.nq_arithmetic.proofs.rounds.facts_of.Goals as goal
 
 pub returns-in_err-whole-clause-grows : goal.returns-in_err-whole-clause-grows
 returns-in_err-whole-clause-grows c = WorkGrows-refl c.args.history.now c.args.work.now c.requires.stands
