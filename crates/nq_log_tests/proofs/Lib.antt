@@ -1,3 +1,4 @@
 pub mod CheckedLemmas
 pub mod ClosedLemmas
+pub mod FreshLemmas
 pub mod ReadyLemmas
