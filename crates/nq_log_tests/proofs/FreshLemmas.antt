@@ -13,7 +13,7 @@ all_none P (x ∷ xs) none = absurd cc
 
 pub fresh_stands : (history : List Entry) (work : Work) → HistoryStands work.bank history → work.log ≡ [] → work.known.items ≡ [] → WorkStands history work
 fresh_stands history work stands lines known = record {
-    log = record { stand = all_none (λ line. All (Stands work.bank) line.clause.items) work.log lines };
-    history = stands;
-    known = all_none (PrescriptionStands work.bank work.log) work.known.items known;
-  }
+  log = record { stand = all_none (λ line. All (Stands work.bank) line.clause.items) work.log lines };
+  history = stands;
+  known = all_none (PrescriptionStands work.bank work.log) work.known.items known;
+}
