@@ -146,3 +146,37 @@ not_called f y u none test = by_test (same_term (call_of f y) u) refl
         let same : u ≡ call_of f y = sym (same_true (call_of f y) u e) in
         let name : ground_text f ≡ codes "ADD1" = none (ground_text f) y same in
         absurd (not_true (bytes_eq (ground_text f) (codes "ADD1")) (and_right (nat_lt f.0 48) (not (bytes_eq (ground_text f) (codes "ADD1"))) test) (eq-bytes_eq (ground_text f) (codes "ADD1") name))
+
+-- the same of a function by its name
+pub called_by : (bank : Content) (g : Name) (y : Term) (u : TermId) (c : OneCall) (a b r : Bool) → IsOneCall bank u c → a ≡ bytes_eq (text_at bank c.function) g → b ≡ same_term y (term_at bank c.argument) → r ≡ (a && b) → r ≡ same_term (Applied (Function g) y) (term_at bank u)
+called_by bank g y u c a b r is name same both =
+    let F : Bool → Bool → Bool = λ x z. elim x as (λ c. Bool) [ true ↦ z | false ↦ false ] in
+    both ∙ and_chosen a b ∙ ap₂ F (name ∙ names_turned (text_at bank c.function) g) same ∙ ap (same_term (Applied (Function g) y)) (sym is.whole)
+
+pub not_called_by : (g : Name) (y u : Term) → IsNoCall u → bytes_eq g (codes "ADD1") ≡ false → false ≡ same_term (Applied (Function g) y) u
+not_called_by g y u none other = by_test (same_term (Applied (Function g) y) u) refl
+  where
+    by_test : (b : Bool) → same_term (Applied (Function g) y) u ≡ b → false ≡ b
+    by_test false e = refl
+    by_test true e =
+        let same : u ≡ Applied (Function g) y = sym (same_true (Applied (Function g) y) u e) in
+        let is : bytes_eq g (codes "ADD1") ≡ true = eq-bytes_eq g (codes "ADD1") (none g y same) in
+        absurd cc
+
+-- a call of arguments is no constant
+no_constant_call : (b : Name) (t u : Term) (ts : List Term) → same_term (Function b) (applied (Applied t u) ts) ≡ false
+no_constant_call b t u [] = refl
+no_constant_call b t u (v ∷ ts) = no_constant_call b (Applied t u) v ts
+
+pub long_no_constant : (bank : Content) (b f : Name) (t : Term) (ids : List TermId) → t ≡ call f (terms_at bank ids) → 1 ≤ length ids → false ≡ same_term (Function b) t
+long_no_constant bank b f t [] e least = absurd (omega arith)
+long_no_constant bank b f t (a ∷ ids) e least = sym (ap (same_term (Function b)) e ∙ no_constant_call b (Function f) (term_at bank a) (terms_at bank ids))
+
+pub short_constant : (bank : Content) (b f : Name) (t : Term) (ids : List TermId) (r : Bool) → t ≡ call f (terms_at bank ids) → length ids < 1 → r ≡ bytes_eq b f → r ≡ same_term (Function b) t
+short_constant bank b f t [] r e few same = same ∙ ap (same_term (Function b)) (sym e)
+short_constant bank b f t (a ∷ ids) r e few same = absurd (omega arith)
+
+pub numeral_no_constant : (n : ℕ) (b : Name) (t : Term) → t ≡ numeral n → bytes_eq b (codes "ZERO") ≡ false → false ≡ same_term (Function b) t
+unfolding numeral
+numeral_no_constant zero b t e other = sym (ap (same_term (Function b)) e ∙ other)
+numeral_no_constant (suc n) b t e other = sym (ap (same_term (Function b)) e)

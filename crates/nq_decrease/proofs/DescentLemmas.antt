@@ -1,11 +1,11 @@
 -- Lines that say that terms are smaller, however the work grows.
-use Rattle.std.proofs.Common.{◌≡◌, ◌≤◌, ℕ, List, [], ◌∷◌, map, inl, inr, refl, sym, ap, ap₂, ◌∙◌, subst}
+use Rattle.std.proofs.Common.{◌≡◌, ℕ, List, [], ◌∷◌, map, inl, inr, refl, sym, ap₂, subst}
 use Rattle.std.specs.Prelude.{codes}
-use Rattle.nq_logic.specs.Terms.{Term, Substitution, substituted}
+use Rattle.nq_logic.specs.Terms.{Term}
 use Rattle.nq_logic.specs.Words.{call1, not_term}
 use Rattle.nq_logic.specs.Ground.{symbols_of}
 use Rattle.nq_logic.specs.Numerals.{number_of}
-use Rattle.nq_logic.specs.Sizes.{depth_of, tree_depth}
+use Rattle.nq_logic.specs.Sizes.{tree_depth}
 use Rattle.nq_bank.specs.declared.node.TermId.{TermId}
 use Rattle.nq_bank.specs.Content.{term_at}
 use Rattle.nq_proof.specs.Clauses.{Clause}
@@ -19,9 +19,11 @@ use Rattle.nq_lines.proofs.LineLemmas.{only_grown, only_more}
 use Rattle.nq_lines.proofs.TermLemmas.{same_term_grown}
 use Rattle.nq_replay.specs.LawClauses.{sizes_descend_clause, smaller_is_below_clause, size_is_ordinal_clause}
 use Rattle.nq_decrease.specs.declared.level.Level.{Level}
-use Rattle.nq_decrease.specs.LawLines.{is_law, IsLaw, term_room}
+use Rattle.nq_part_lines.specs.LawLines.{is_law, IsLaw}
+use Rattle.nq_part_lines.specs.Pairs.{three_pairs}
+use Rattle.nq_part_lines.proofs.GrownLemmas.{law_made}
 use Rattle.nq_decrease.specs.Levels.{part_of, tests_of}
-use Rattle.nq_decrease.specs.Nests.{JoinsSizes, AddsLevel, Lowers, three_pairs}
+use Rattle.nq_decrease.specs.Nests.{JoinsSizes, AddsLevel, Lowers}
 
 -- the laws are laws
 pub descent_is_law : IsLaw sizes_descend_clause
@@ -36,14 +38,6 @@ pub ordinal_is_law : IsLaw size_is_ordinal_clause
 unfolding is_law symbols_of number_of tree_depth
 ordinal_is_law = refl
 
-itself : (c : Clause) → AreAmong c c
-itself c v m = m
-
--- the line of a law's instance
-pub law_made : (old new : Work) (s : Substitution) (c these : Clause) (line n : ℕ) → LineHolds old line c → InstancesTo old new s line n → AreAmong (map (substituted s) c) these → LineHasOnly new n these
-law_made old new s c these line n holds h within =
-    only_more new n (map (substituted s) c) these within (h c (record { literals = c; stands = holds; only = itself c }))
-
 pub descent_made : (old new : Work) (t y z : Term) (line n : ℕ) → LineHolds old line sizes_descend_clause → InstancesTo old new (three_pairs t y z) line n → LineHasOnly new n (not_term (is_smaller y z) ∷ not_term (is_smaller t y) ∷ is_smaller t z ∷ [])
 descent_made old new t y z line n holds h = law_made old new (three_pairs t y z) sizes_descend_clause _ line n holds h (λ v m. m)
 
@@ -54,16 +48,6 @@ pub ordinal_made : (old new : Work) (t : Term) (line n : ℕ) → LineHolds old 
 ordinal_made old new t line n holds h = law_made old new ((codes "X", t) ∷ []) size_is_ordinal_clause _ line n holds h (λ v m. m)
 
 module _ (history : List Entry) (old new : Work) (grows : WorkGrows history old new) where
-  pub room_grown : (t : TermId) → IsTermIn history old t → depth_of (term_at old.bank t) ≤ term_room → depth_of (term_at new.bank t) ≤ term_room
-  room_grown t k room = subst (λ t. depth_of t ≤ term_room) (sym (same_term_grown history old new t grows k)) room
-
-  pub three_grown : (x y z : TermId) → IsTermIn history old x → IsTermIn history old y → IsTermIn history old z →
-      three_pairs (term_at new.bank x) (term_at new.bank y) (term_at new.bank z) ≡ three_pairs (term_at old.bank x) (term_at old.bank y) (term_at old.bank z)
-  three_grown x y z kx ky kz =
-      ap (λ t. three_pairs t (term_at new.bank y) (term_at new.bank z)) (same_term_grown history old new x grows kx) ∙
-      ap (λ t. three_pairs (term_at old.bank x) t (term_at new.bank z)) (same_term_grown history old new y grows ky) ∙
-      ap (λ t. three_pairs (term_at old.bank x) (term_at old.bank y) t) (same_term_grown history old new z grows kz)
-
   pub smaller_grown : (t u : TermId) → IsTermIn history old t → IsTermIn history old u → is_smaller (term_at new.bank t) (term_at new.bank u) ≡ is_smaller (term_at old.bank t) (term_at old.bank u)
   smaller_grown t u k l = ap₂ is_smaller (same_term_grown history old new t grows k) (same_term_grown history old new u grows l)
 

@@ -1,26 +1,22 @@
 -- Instances of lines that stood before, and the laws of levels at a term.
 use Rattle.std.proofs.Common.{ℕ, List, [], ◌∷◌, map, refl, inl, inr}
 use Rattle.std.specs.Prelude.{codes}
-use Rattle.nq_logic.specs.Terms.{Term, Substitution, substituted}
+use Rattle.nq_logic.specs.Terms.{Term, substituted}
 use Rattle.nq_logic.specs.Words.{not_term}
 use Rattle.nq_logic.specs.Ground.{symbols_of}
 use Rattle.nq_logic.specs.Numerals.{number_of}
 use Rattle.nq_logic.specs.Sizes.{tree_depth}
 use Rattle.nq_proof.specs.Clauses.{Clause}
-use Rattle.nq_history.specs.declared.entry.Entry.{Entry}
 use Rattle.nq_kernel.specs.declared.work.Work.{Work}
-use Rattle.nq_kernel.specs.Growing.{WorkStands, WorkGrows, LineHolds}
+use Rattle.nq_kernel.specs.Growing.{LineHolds}
 use Rattle.nq_lines.specs.Lines.{LineHasOnly, AreAmong}
 use Rattle.nq_lines.specs.Instances.{InstancesTo}
-use Rattle.nq_lines.proofs.LineLemmas.{only_grown, only_more}
+use Rattle.nq_lines.proofs.LineLemmas.{only_more}
 use Rattle.nq_arith.specs.Nests.{accessor_of, is_smaller}
 use Rattle.nq_decrease.specs.declared.level.Level.{Level}
 use Rattle.nq_decrease.specs.declared.level.Level.TheVariants.{First, FirstByNoAtom, Rest, RestByNoAtom, AtomPart, NegativePart, OneLessByNoZero, OneLessOfNumber, OneLessOfNumberTurned}
-use Rattle.nq_decrease.specs.LawLines.{is_law, IsLaw}
+use Rattle.nq_part_lines.specs.LawLines.{is_law, IsLaw}
 use Rattle.nq_decrease.specs.Levels.{clause_of, part_of, tests_of}
-
-pub instances_since : (history : List Entry) (old mid new : Work) (s : Substitution) (line n : ℕ) → WorkStands history old → WorkGrows history old mid → InstancesTo mid new s line n → InstancesTo old new s line n
-instances_since history old mid new s line n stands grows h = λ these k. h these (only_grown history old mid line these stands grows k)
 
 -- the laws of levels are laws
 pub level_law : (l : Level) → IsLaw (clause_of l)

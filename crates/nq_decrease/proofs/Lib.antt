@@ -1,10 +1,13 @@
-pub mod DepthLemmas
-pub mod LawLemmas
-pub mod LineLemmas
 pub mod InstanceLemmas
 pub mod CallLemmas
-pub mod TermLemmas
+pub mod GuardLemmas
 pub mod NestLemmas
 pub mod DescentLemmas
 pub mod FilterLemmas
 pub mod NestLines
+pub mod OwnLevelLemmas
+pub mod OwnPlaceLemmas
+pub mod OwnNestLemmas
+pub mod OwnNestLines
+pub mod OwnShellLemmas
+pub mod OwnGrownLemmas

@@ -277,15 +277,11 @@ module _ (kind : Kind) (tests : List Term) (x t : Term) where
             guarded = (subst (IsGuarded tests (shell_of kind)) n.is l.guarded, n.guarded);
           }
 
-kind_here : (kind : Kind) → IsAmong (shell_of kind) ground_shells
+pub kind_here : (kind : Kind) → IsAmong (shell_of kind) ground_shells
 kind_here Numbers = inl refl
 kind_here Pairs = inr (inl refl)
 kind_here Atoms = inr (inr (inl refl))
 kind_here Negatives = inr (inr (inr (inl refl)))
-
--- a nest of a ground shell's accessors is structural
-pub nest_structural : (kind : Kind) (tests : List Term) (x t : Term) → IsNestOf (shell_of kind) tests x t → IsStructuralNest [] x tests t
-nest_structural kind tests x t n = record { shell = shell_of kind; here = kind_here kind; first = n.first; rest = n.rest; parts = n.parts; is = n.is; guarded = n.guarded }
 
 -- which shell has this part
 record HasKind (s : Shell) (p : Part) : Type 0 where

@@ -9,23 +9,22 @@ use Rattle.nq_logic.specs.Numerals.{number_of, next_number, is_numeral}
 use Rattle.nq_logic.specs.Sizes.{depth_of, tree_depth}
 use Rattle.nq_logic.proofs.Symbols.{car_symbol, cdr_symbol, sub1_symbol, unpack_symbol, negative_guts_symbol}
 use Rattle.nq_bank.specs.declared.node.TermId.{TermId}
-use Rattle.nq_bank.specs.Content.{Content, Stands, IsIdOf, term_at, terms_at}
+use Rattle.nq_bank.specs.Content.{Stands, term_at}
 use Rattle.nq_history.specs.declared.entry.Entry.{Entry}
 use Rattle.nq_history.specs.Events.{events_at}
 use Rattle.nq_kernel.specs.declared.work.Work.{Work}
 use Rattle.nq_kernel.specs.Growing.{WorkGrows}
 use Rattle.nq_arith.specs.Nests.{is_smaller, accessor_of, nest}
-use Rattle.nq_arith.specs.Structural.{IsStructuralNest}
 use Rattle.nq_lines.specs.Lines.{IsTermIn, LineHasOnly, AreAmong}
 use Rattle.nq_lines.proofs.LineLemmas.{only_more}
 use Rattle.nq_lines.proofs.TermLemmas.{IsOver, same_term_grown}
 use Rattle.nq_decrease.specs.declared.level.Level.{Level}
 use Rattle.nq_decrease.specs.declared.kind.Kind.{Kind}
 use Rattle.nq_decrease.specs.declared.kind.Kind.TheVariants.{Numbers, Pairs, Atoms, Negatives}
-use Rattle.nq_decrease.specs.LawLines.{term_room}
+use Rattle.nq_part_lines.specs.LawLines.{term_room}
 use Rattle.nq_decrease.specs.Levels.{part_of, tests_of, shell_of}
-use Rattle.nq_decrease.specs.Nests.{IsNestOf, IsNestLine, IsDecreaseLine, AddsLevel, Lowers}
-use Rattle.nq_decrease.proofs.NestLemmas.{IsLevelOf, last_nest, more_nest, nest_structural}
+use Rattle.nq_decrease.specs.Nests.{IsNestOf, IsNestLine, AddsLevel, Lowers}
+use Rattle.nq_decrease.proofs.NestLemmas.{IsLevelOf, last_nest, more_nest}
 
 -- an argument is no deeper than its call
 pub part_depth : (f : Name) (y : Term) → depth_of y ≤ depth_of (Applied (Function f) y)
@@ -80,7 +79,7 @@ module _ (history : List Entry) (work : Work) where
   nest_in kind tests x t stands k n =
       record { stands = stands; over = subst (IsOver history work) (sym n.is) (nest_over kind (term_at work.bank x) (n.first ∷ n.rest) n.parts k.over) }
 
-denied_among : (c d : List Term) → AreAmong c d → AreAmong (map not_term c) (map not_term d)
+pub denied_among : (c d : List Term) → AreAmong c d → AreAmong (map not_term c) (map not_term d)
 denied_among [] d within v m = absurd m
 denied_among (t ∷ c) d within v (inl e) = subst (λ u. IsAmong u (map not_term d)) (sym e) (denied_one t d (within t (inl refl)))
   where
@@ -90,7 +89,7 @@ denied_among (t ∷ c) d within v (inl e) = subst (λ u. IsAmong u (map not_term
     denied_one t (u ∷ d) (inr i) = inr (denied_one t d i)
 denied_among (t ∷ c) d within v (inr m) = denied_among c d (λ u i. within u (inr i)) v m
 
-more_denied : (a : Term) (c d : List Term) → AreAmong c d → AreAmong (a ∷ map not_term c) (a ∷ map not_term d)
+pub more_denied : (a : Term) (c d : List Term) → AreAmong c d → AreAmong (a ∷ map not_term c) (a ∷ map not_term d)
 more_denied a c d within v (inl e) = inl e
 more_denied a c d within v (inr m) = inr (denied_among c d within v m)
 
@@ -128,21 +127,6 @@ pub lowers_grown : (history : List Entry) (old one two : Work) → WorkGrows his
 lowers_grown history old one two grows t z line n kt kz h =
     subst (λ u. Lowers one two u (term_at old.bank z) line n) (same_term_grown history old one t grows kt)
     (subst (λ u. Lowers one two (term_at one.bank t) u line n) (same_term_grown history old one z grows kz) h)
-
--- the line of a nest, lowered
-pub decrease_line : (old new : Work) (kind : Kind) (tests : List Term) (x t : Term) (line n : ℕ) → IsNestLine old (shell_of kind) tests x t line → Lowers old new t x line n → IsDecreaseLine [] new tests x t n
-decrease_line old new kind tests x t line n h lowers = record { structural = nest_structural kind tests x t h.is; line = lowers (map not_term tests) h.line }
-
--- what is found of terms of a grown bank
-abbrev pub IsFound : Work → List Term → Term → Term → Option ℕ → Type 0
-IsFound new tests x t r = MatchOption r (IsStructuralNest [] x tests t → ⊥) (IsDecreaseLine [] new tests x t)
-
-pub found_grown : (old one : Content) (new : Work) (whole nest : TermId) (tests : List TermId) (x : Term) (r : Option ℕ) → IsIdOf one whole x → term_at one nest ≡ term_at old nest → terms_at one tests ≡ terms_at old tests →
-    IsFound new (terms_at one tests) (term_at one whole) (term_at one nest) r → IsFound new (terms_at old tests) x (term_at old nest) r
-found_grown old one new whole nest tests x r is e f h =
-    subst (λ u. IsFound new (terms_at old tests) u (term_at old nest) r) is.denotes
-    (subst (λ u. IsFound new (terms_at old tests) (term_at one whole) u r) e
-    (subst (λ us. IsFound new us (term_at one whole) (term_at one nest) r) f h))
 
 -- what was found, where it was something, and where it was nothing
 pub found_some : (P : Type 0) (Q : ℕ → Type 0) (r : Option ℕ) (n : ℕ) → r ≡ Some n → MatchOption r P Q → Q n

@@ -1,10 +1,10 @@
 -- Nests of one shell's accessors, and lines that say that they are smaller.
-use Rattle.std.specs.Prelude.{◌≡◌, ℕ, List, [], ◌∷◌, map, codes, Some, None}
+use Rattle.std.specs.Prelude.{◌≡◌, ℕ, List, ◌∷◌, map, Some, None}
 use Rattle.nq_logic.specs.Terms.{Name, Term, Function, Applied, IsAmong, Each}
 use Rattle.nq_logic.specs.Words.{not_term}
 use Rattle.nq_logic.specs.Histories.{History, Shell, Part}
 use Rattle.nq_kernel.specs.declared.work.Work.{Work}
-use Rattle.nq_arith.specs.Nests.{accessor_of, is_smaller, is_below, nest, AreGuarded}
+use Rattle.nq_arith.specs.Nests.{accessor_of, is_smaller, is_below, nest, AreGuarded, IsShellOf}
 use Rattle.nq_arith.specs.Structural.{IsStructuralNest}
 use Rattle.nq_lines.specs.Lines.{AreAmong, LineHasOnly}
 use Rattle.nq_decrease.specs.declared.level.Level.{Level}
@@ -24,6 +24,12 @@ pub record IsNestLine (work : Work) (s : Shell) (tests : List Term) (x t : Term)
   pub is : IsNestOf s tests x t
   pub line : LineHasOnly work n (is_smaller t x ∷ map not_term tests)
 
+-- t is a nest of the accessors of a shell of the history, and line n has only that it is smaller than x, and the NOTs of the tests
+pub record IsShellNestLine (h : History) (work : Work) (tests : List Term) (x t : Term) (n : ℕ) : Type 0 where
+  pub shell : Shell
+  pub here : IsShellOf h shell
+  pub line : IsNestLine work shell tests x t n
+
 -- t is structural around x, and line n has only that it is below x, and the NOTs of the tests
 pub record IsDecreaseLine (h : History) (work : Work) (tests : List Term) (x t : Term) (n : ℕ) : Type 0 where
   pub structural : IsStructuralNest h x tests t
@@ -42,10 +48,6 @@ AddsLevel old new level y z inner n =
 -- line n has that t is below z, from a line that it is smaller
 abbrev pub Lowers : Work → Work → Term → Term → ℕ → ℕ → Type 0
 Lowers old new t z line n = (these : List Term) → LineHasOnly old line (is_smaller t z ∷ these) → LineHasOnly new n (is_below t z ∷ these)
-
--- terms in the place of the variables X, Y and Z
-abbrev pub three_pairs : Term → Term → Term → List (List ℕ × Term)
-three_pairs x y z = (codes "X", x) ∷ (codes "Y", y) ∷ (codes "Z", z) ∷ []
 
 -- the term is the call of an accessor of this shell
 pub record IsOfShell (t : Term) (kind : Kind) : Type 0 where

@@ -3,28 +3,36 @@ ghost use Rattle.std.specs.Prelude.{◌≡◌, ◌≤◌, ◌∷◌, [], All, If
 ghost use Rattle.nq_logic.specs.Terms.{Variable};
 ghost use Rattle.nq_logic.specs.Words.{call1};
 ghost use Rattle.nq_logic.specs.Sizes.{depth_of};
+ghost use Rattle.nq_logic.specs.Histories.{events_shells};
 ghost use Rattle.nq_bank.specs.Content.{Stands, IsNamed, text_at, term_at, terms_at};
+ghost use Rattle.nq_bank.specs.Shells.{ShellStands, shells_at};
 ghost use Rattle.nq_arith.specs.Structural.{IsStructuralNest};
 ghost use Rattle.nq_kernel.specs.Growing.{WorkStands};
+ghost use Rattle.nq_covered.specs.Covered.{IsCoveredNest};
+ghost use Rattle.nq_history.specs.Events.{HistoryStands, events_at};
 ghost use Rattle.nq_kernel.specs.Over.{IsVariable};
+ghost use Rattle.nq_kernel.specs.Ready.{IsReady};
 ghost use Rattle.nq_lines.specs.Lines.{IsTermIn, LineHasOnly};
 ghost use Rattle.nq_replay.specs.Uncounted.{GrowsUncounted};
-ghost use Rattle.nq_decrease.specs.LawLines.{term_room};
+ghost use Rattle.nq_part_lines.specs.LawLines.{term_room};
 ghost use Rattle.nq_decrease.specs.Levels.{shell_of};
-ghost use Rattle.nq_decrease.specs.Nests.{IsNestOf, IsNestLine, IsDecreaseLine, IsOfShell, IsOfNoShell};
+ghost use Rattle.nq_decrease.specs.Nests.{IsNestOf, IsNestLine, IsDecreaseLine, IsOfShell, IsOfNoShell, IsShellNestLine};
 
 use crate::calls::{call_of_one, is_same};
 use crate::choosing::{kind_of, level_of};
 use crate::joining::{below_line, outer_line};
 use crate::kind::Kind;
 use crate::levels::level_line;
-use crate::lines::at_term;
-use crate::terms::variable;
-use nq_bank::{Bank, Sym, TermId};
+use crate::own_nests::nest_of_own;
+use nq_bank::{Bank, Shell, Sym, TermId};
 use nq_history::History;
 use nq_kernel::Work;
+use nq_part_lines::{at_term, variable};
 use nq_replay::size_is_ordinal as size_law;
 use std::alloc::AllocError;
+
+/// How many shells the ground history has.
+const GROUND_SHELLS: usize = 4;
 
 /// The line that a nest of the shell's accessors around a term is smaller than the term.
 fn descend(
@@ -77,38 +85,10 @@ fn outermost(bank: &Bank, t: TermId) -> Option<Kind>
     }
 }
 
-/// The line that a nest of a ground shell's accessors around a variable is below the variable, where the nest is structural
-/// under the tests. No step is counted.
-pub fn decrease(
+/// The line that a nest of a ground shell's accessors around a term is smaller than the term.
+fn ground_nest(
     work: &mut Work,
     history: &History,
-    x: Sym,
-    nest: TermId,
-    tests: &[TermId],
-) -> Result<Option<u64>, AllocError>
-    requires stands { WorkStands history.now work.old }
-    requires named { IsNamed work.old.bank x }
-    requires variable { IsVariable (text_at work.old.bank x) }
-    requires nest { Stands work.old.bank nest }
-    requires tests { All (Stands work.old.bank) tests.now }
-    requires shallow { depth_of (term_at work.old.bank nest) ≤ term_room }
-    ensures answer { IfOk result (λ found. MatchOption found (IsStructuralNest [] (Variable (text_at work.old.bank x)) (terms_at work.old.bank tests.now) (term_at work.old.bank nest) → ⊥) (IsDecreaseLine [] work.new (terms_at work.old.bank tests.now) (Variable (text_at work.old.bank x)) (term_at work.old.bank nest))) }
-    ensures grows { GrowsUncounted history.now work.old work.new }
-{
-    match outermost(&work.bank, nest) {
-        None => Ok(None),
-        Some(kind) => {
-            let whole = variable(work, history, x)?;
-            decrease_of(work, history, kind, whole, nest, tests)
-        }
-    }
-}
-
-/// The same, where the shell is known, and the variable's term.
-fn decrease_of(
-    work: &mut Work,
-    history: &History,
-    kind: Kind,
     whole: TermId,
     nest: TermId,
     tests: &[TermId],
@@ -117,19 +97,102 @@ fn decrease_of(
     requires whole { IsTermIn history.now work.old whole }
     requires nest { Stands work.old.bank nest }
     requires tests { All (Stands work.old.bank) tests.now }
-    requires kind { IsOfShell (term_at work.old.bank nest) kind }
     requires room { depth_of (term_at work.old.bank whole) ≤ term_room }
     requires shallow { depth_of (term_at work.old.bank nest) ≤ term_room }
-    ensures answer { IfOk result (λ found. MatchOption found (IsStructuralNest [] (term_at work.old.bank whole) (terms_at work.old.bank tests.now) (term_at work.old.bank nest) → ⊥) (IsDecreaseLine [] work.new (terms_at work.old.bank tests.now) (term_at work.old.bank whole) (term_at work.old.bank nest))) }
+    ensures answer { IfOk result (λ found. MatchOption found (IsStructuralNest [] (term_at work.old.bank whole) (terms_at work.old.bank tests.now) (term_at work.old.bank nest) → ⊥) (IsShellNestLine (events_at work.old.bank history.now) work.new (terms_at work.old.bank tests.now) (term_at work.old.bank whole) (term_at work.old.bank nest))) }
     ensures grows { GrowsUncounted history.now work.old work.new }
 {
-    match descend(work, history, kind, whole, nest, tests)? {
+    match outermost(&work.bank, nest) {
+        None => Ok(None),
+        Some(kind) => descend(work, history, kind, whole, nest, tests),
+    }
+}
+
+/// The users' shells of the history.
+fn users_shells<'a>(bank: &Bank, history: &'a History) -> &'a [Shell]
+    requires { HistoryStands bank.now history.now }
+    ensures shells { shells_at bank.now result.now ≡ events_shells (events_at bank.now history.now) }
+    ensures stand { All (ShellStands bank.now) result.now }
+{
+    let shells = history.shells();
+    &shells[GROUND_SHELLS..]
+}
+
+/// The line that a nest of a covered shell's accessors around a term is smaller than the term.
+fn nest_line(
+    work: &mut Work,
+    history: &History,
+    whole: TermId,
+    nest: TermId,
+    tests: &[TermId],
+) -> Result<Option<u64>, AllocError>
+    requires stands { WorkStands history.now work.old }
+    requires ready { IsReady (events_at work.old.bank history.now) }
+    requires whole { IsTermIn history.now work.old whole }
+    requires nest { Stands work.old.bank nest }
+    requires tests { All (Stands work.old.bank) tests.now }
+    requires room { depth_of (term_at work.old.bank whole) ≤ term_room }
+    requires shallow { depth_of (term_at work.old.bank nest) ≤ term_room }
+    ensures answer { IfOk result (λ found. MatchOption found (IsCoveredNest (events_at work.old.bank history.now) (term_at work.old.bank whole) (terms_at work.old.bank tests.now) (term_at work.old.bank nest) → ⊥) (IsShellNestLine (events_at work.old.bank history.now) work.new (terms_at work.old.bank tests.now) (term_at work.old.bank whole) (term_at work.old.bank nest))) }
+    ensures grows { GrowsUncounted history.now work.old work.new }
+{
+    match ground_nest(work, history, whole, nest, tests)? {
+        None => {
+            let own = users_shells(&work.bank, history);
+            nest_of_own(work, history, own, whole, nest, tests)
+        }
+        Some(line) => Ok(Some(line)),
+    }
+}
+
+/// The line that such a nest is below the term.
+fn decrease_of(
+    work: &mut Work,
+    history: &History,
+    whole: TermId,
+    nest: TermId,
+    tests: &[TermId],
+) -> Result<Option<u64>, AllocError>
+    requires stands { WorkStands history.now work.old }
+    requires ready { IsReady (events_at work.old.bank history.now) }
+    requires whole { IsTermIn history.now work.old whole }
+    requires nest { Stands work.old.bank nest }
+    requires tests { All (Stands work.old.bank) tests.now }
+    requires room { depth_of (term_at work.old.bank whole) ≤ term_room }
+    requires shallow { depth_of (term_at work.old.bank nest) ≤ term_room }
+    ensures answer { IfOk result (λ found. MatchOption found (IsCoveredNest (events_at work.old.bank history.now) (term_at work.old.bank whole) (terms_at work.old.bank tests.now) (term_at work.old.bank nest) → ⊥) (IsDecreaseLine (events_at work.old.bank history.now) work.new (terms_at work.old.bank tests.now) (term_at work.old.bank whole) (term_at work.old.bank nest))) }
+    ensures grows { GrowsUncounted history.now work.old work.new }
+{
+    match nest_line(work, history, whole, nest, tests)? {
         None => Ok(None),
         Some(line) => {
             let below = below_line(work, history, nest, whole, line)?;
             Ok(Some(below))
         }
     }
+}
+
+/// The line that a nest of a shell's accessors around a variable is below the variable, where the nest is structural under the
+/// tests and the shell is covered. No step is counted.
+pub fn decrease(
+    work: &mut Work,
+    history: &History,
+    x: Sym,
+    nest: TermId,
+    tests: &[TermId],
+) -> Result<Option<u64>, AllocError>
+    requires stands { WorkStands history.now work.old }
+    requires ready { IsReady (events_at work.old.bank history.now) }
+    requires named { IsNamed work.old.bank x }
+    requires variable { IsVariable (text_at work.old.bank x) }
+    requires nest { Stands work.old.bank nest }
+    requires tests { All (Stands work.old.bank) tests.now }
+    requires shallow { depth_of (term_at work.old.bank nest) ≤ term_room }
+    ensures answer { IfOk result (λ found. MatchOption found (IsCoveredNest (events_at work.old.bank history.now) (Variable (text_at work.old.bank x)) (terms_at work.old.bank tests.now) (term_at work.old.bank nest) → ⊥) (IsDecreaseLine (events_at work.old.bank history.now) work.new (terms_at work.old.bank tests.now) (Variable (text_at work.old.bank x)) (term_at work.old.bank nest))) }
+    ensures grows { GrowsUncounted history.now work.old work.new }
+{
+    let whole = variable(work, history, x)?;
+    decrease_of(work, history, whole, nest, tests)
 }
 
 /// The line that the size of a term is an ordinal. No step is counted.

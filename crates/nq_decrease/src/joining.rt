@@ -9,17 +9,17 @@ ghost use Rattle.nq_lines.specs.Lines.{IsTermIn, LineHasOnly, CutsTo};
 ghost use Rattle.nq_lines.specs.Instances.{InstancesTo};
 ghost use Rattle.nq_replay.specs.Uncounted.{GrowsUncounted};
 ghost use Rattle.nq_replay.specs.LawClauses.{sizes_descend_clause};
-ghost use Rattle.nq_decrease.specs.LawLines.{IsLaw, term_room};
+ghost use Rattle.nq_part_lines.specs.LawLines.{IsLaw, term_room};
 ghost use Rattle.nq_decrease.specs.Levels.{part_of};
-ghost use Rattle.nq_decrease.specs.Nests.{JoinsSizes, AddsLevel, Lowers, three_pairs};
+ghost use Rattle.nq_decrease.specs.Nests.{JoinsSizes, AddsLevel, Lowers};
+ghost use Rattle.nq_part_lines.specs.Pairs.{three_pairs};
 
 use crate::level::Level;
 use crate::levels::level_line;
-use crate::lines::{at_three, cut};
-use crate::terms::smaller_term;
 use nq_bank::TermId;
 use nq_history::History;
 use nq_kernel::Work;
+use nq_part_lines::{at_three, cut, smaller_term};
 use nq_replay::{less_is_transitive, size_falls, sizes_descend, smaller_is_below};
 use std::alloc::AllocError;
 
@@ -95,7 +95,7 @@ fn cut_smaller(
 }
 
 /// Adds the line that t is smaller than z, from lines for t and y, and for y and z.
-fn joined_sizes(
+pub fn joined_sizes(
     work: &mut Work,
     history: &History,
     t: TermId,

@@ -1,14 +1,9 @@
 //! Which tests a structural nest needs.
-ghost use Rattle.nq_decrease.specs.Laws.{StructuralWithout, StructuralWith, GroundIsStructural};
+ghost use Rattle.nq_decrease.specs.Laws.{StructuralWithout, StructuralWith};
 
-/// Tells a caller's proof that a structural nest stays one without the tests that mention a function that is not in use, and
+/// Tells a caller's proof that a covered nest stays one without the tests that mention a function that is not in use, and
 /// that one under those others is one under all. It does nothing.
 pub fn structural_filtered()
     ensures fewer { StructuralWithout }
     ensures more { StructuralWith }
-{}
-
-/// Tells a caller's proof that what is structural by a ground shell is so in every history. It does nothing.
-pub fn ground_structural()
-    ensures { GroundIsStructural }
 {}

@@ -8,14 +8,14 @@ ghost use Rattle.nq_kernel.specs.Growing.{WorkStands, LineHolds};
 ghost use Rattle.nq_lines.specs.Lines.{IsTermIn, LineHasOnly};
 ghost use Rattle.nq_replay.specs.Uncounted.{GrowsUncounted};
 ghost use Rattle.nq_replay.specs.LawClauses.{one_less_is_smaller_clause};
-ghost use Rattle.nq_decrease.specs.LawLines.{term_room};
+ghost use Rattle.nq_part_lines.specs.LawLines.{term_room};
 ghost use Rattle.nq_decrease.specs.Levels.{clause_of, part_of, tests_of};
 
 use crate::level::Level;
-use crate::lines::at_term;
 use nq_bank::TermId;
 use nq_history::History;
 use nq_kernel::Work;
+use nq_part_lines::at_term;
 use nq_replay::{
     atom_part_is_smaller, first_by_no_atom, first_is_smaller, less_than_one_more,
     negative_part_is_smaller, one_less_by_no_zero, one_less_is_smaller, one_less_of_number,

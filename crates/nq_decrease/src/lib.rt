@@ -1,4 +1,4 @@
-//! Parts of values are smaller than the values: lines of this for the ground shells, without counting a step.
+//! Parts of values are smaller than the values: lines of this for the ground shells and for covered shells of users, without counting a step.
 #![tactic(auto)]
 
 // parts, and the tests under which they are smaller
@@ -17,20 +17,21 @@ mod calls;
 mod choosing;
 mod guards;
 
-// single lines
-mod lines;
+// the same of users' shells
+mod own_guards;
+mod own_tests;
 
 // a part of a term
 mod levels;
-
-// terms that are made
-mod terms;
+mod own_level;
+mod own_levels;
 
 // descents that are joined
 mod joining;
 
 // nests
 mod descents;
+mod own_nests;
 
 // which tests they need
 mod laws;
@@ -39,7 +40,9 @@ pub use calls::{Equation, OneCall};
 pub use descents::{decrease, size_is_ordinal};
 pub use guard::Guard;
 pub use kind::Kind;
-pub use laws::{ground_structural, structural_filtered};
+pub use laws::structural_filtered;
 pub use level::Level;
 pub use levels::level_line;
-pub use lines::{at_term, cut, instance};
+pub use own_guards::{guard_is_exact, own_guard};
+pub use own_level::OwnLevel;
+pub use own_tests::{OwnGuard, OwnTest};

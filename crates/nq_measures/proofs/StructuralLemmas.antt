@@ -8,13 +8,14 @@ use Rattle.nq_logic.specs.Ground.{symbols_of, ground_shells}
 use Rattle.nq_logic.specs.Names.{is_in_use}
 use Rattle.nq_logic.specs.Admissible.{mentions, matched, Call, calls_of}
 use Rattle.nq_logic.specs.Shells.{recognizes}
-use Rattle.nq_logic.proofs.Lists.{among_behind, each_at}
+use Rattle.nq_logic.proofs.Lists.{each_at}
 use Rattle.nq_logic.proofs.Symbols.{not_symbol, equal_symbol, nlistp_symbol, zerop_symbol}
 use Rattle.nq_proof.specs.Closed.{MeetsShellPrinciple}
 use Rattle.nq_proof.proofs.ShellSymbols.{ShellOver}
 use Rattle.nq_proof.proofs.AcceptedShells.{accepted_over}
 use Rattle.nq_arith.specs.Nests.{IsShellOf, nest, IsGuarded, recognized, no_atom, no_base, no_base_turned, no_zero, AreGuarded}
-use Rattle.nq_arith.specs.Structural.{IsStructuralNest}
+use Rattle.nq_covered.specs.Covered.{IsCoveredNest}
+use Rattle.nq_covered.specs.Definitions.{TakesCovered}
 use Rattle.nq_measures.proofs.NewNames.{not_mentioned}
 use Rattle.nq_calls.specs.Calls.{beneath, counted_calls, older_tests}
 use Rattle.nq_measures.specs.Trials.{Descends}
@@ -52,29 +53,31 @@ module _ (h : History) (f : Name) (new : is_in_use f h ≡ false) where
       guards_kept tests x [] ox each g = tt
       guards_kept tests x (p ∷ ps) ox each g = (guard_kept tests (nest x ps) (nest_right x ps ox each.1) g.0, guards_kept tests x ps ox each.1 g.1)
 
-    -- a shell of the ground history
-    wider : (s : Shell) → IsShellOf [] s → IsShellOf h s
-    wider s m = among_behind s ground_shells [] (events_shells h) (λ k. absurd k) m
-
     -- a nest under all tests is one under those that count
-    nest_kept : (x : Name) (tests : List Term) (t : Term) → IsStructuralNest [] (Variable x) tests t → IsStructuralNest [] (Variable x) (older_tests f tests) t
-    nest_kept x tests t n =
-        record { shell = n.shell; here = n.here; first = n.first; rest = n.rest; parts = n.parts; is = n.is; guarded = guards_kept n.shell (wider n.shell n.here) tests (Variable x) (n.first ∷ n.rest) tt n.parts n.guarded }
+    nest_kept : (x : Name) (tests : List Term) (t : Term) → IsCoveredNest h (Variable x) tests t → IsCoveredNest h (Variable x) (older_tests f tests) t
+    nest_kept x tests t c =
+        let n = c.nest in
+        record {
+          nest = record { shell = n.shell; here = n.here; first = n.first; rest = n.rest; parts = n.parts; is = n.is; guarded = guards_kept n.shell n.here tests (Variable x) (n.first ∷ n.rest) tt n.parts n.guarded };
+          covered = c.covered;
+        }
 
     -- it does not mention the function
-    pub nest_older : (x : Name) (tests : List Term) (t : Term) → IsStructuralNest [] (Variable x) tests t → mentions f t ≡ false
-    nest_older x tests t n = subst (λ u. mentions f u ≡ false) (sym n.is) (not_mentioned h f (nest (Variable x) (n.first ∷ n.rest)) zero new (nest_right n.shell (wider n.shell n.here) (Variable x) (n.first ∷ n.rest) tt n.parts))
+    pub nest_older : (x : Name) (tests : List Term) (t : Term) → IsCoveredNest h (Variable x) tests t → mentions f t ≡ false
+    nest_older x tests t c =
+        let n = c.nest in
+        subst (λ u. mentions f u ≡ false) (sym n.is) (not_mentioned h f (nest (Variable x) (n.first ∷ n.rest)) zero new (nest_right n.shell n.here (Variable x) (n.first ∷ n.rest) tt n.parts))
 
-    descend_beneath : (xs : List Name) (x : Name) (calls : List Call) → Each (λ c. IsStructuralNest [] (Variable x) c.tests (value_at (matched xs c.arguments) x)) calls → Each (Descends h xs x) (beneath f [] calls)
+    descend_beneath : (xs : List Name) (x : Name) (calls : List Call) → Each (TakesCovered h xs x) calls → Each (Descends h xs x) (beneath f [] calls)
     descend_beneath xs x [] w = tt
     descend_beneath xs x (c ∷ calls) w = (nest_kept x c.tests (value_at (matched xs c.arguments) x) w.0, descend_beneath xs x calls w.1)
 
-    pub structural_descends : (xs : List Name) (x : Name) (body : Term) → Each (λ c. IsStructuralNest [] (Variable x) c.tests (value_at (matched xs c.arguments) x)) (calls_of f body) → Each (Descends h xs x) (counted_calls f body)
+    pub structural_descends : (xs : List Name) (x : Name) (body : Term) → Each (TakesCovered h xs x) (calls_of f body) → Each (Descends h xs x) (counted_calls f body)
     structural_descends xs x body w = descend_beneath xs x (calls_of f body) w
 
 -- a variable is no nest
-pub no_nest : (h : History) (x : Name) (tests : List Term) (t : Term) → t ≡ Variable x → IsStructuralNest [] (Variable x) tests t → ⊥
-no_nest h x tests t e n = apart (Function n.first.accessor) (nest (Variable x) n.rest) (sym e ∙ n.is)
+pub no_nest : (h : History) (x : Name) (tests : List Term) (t : Term) → t ≡ Variable x → IsCoveredNest h (Variable x) tests t → ⊥
+no_nest h x tests t e c = apart (Function c.nest.first.accessor) (nest (Variable x) c.nest.rest) (sym e ∙ c.nest.is)
   where
     apart : (a b : Term) → Variable x ≡ Applied a b → ⊥
     apart a b q = cc

@@ -11,7 +11,7 @@ use Rattle.nq_bank.specs.declared.node.Sym.{Sym}
 use Rattle.nq_bank.specs.declared.node.TermId.{TermId}
 use Rattle.nq_bank.specs.Content.{Content, Stands, IsNamed, IsIdOf, text_at, term_at, terms_at}
 use Rattle.nq_bank.specs.Shells.{texts_at}
-use Rattle.nq_arith.specs.Structural.{IsStructuralNest}
+use Rattle.nq_covered.specs.Covered.{IsCoveredNest}
 use Rattle.nq_history.specs.declared.entry.Entry.{Entry}
 use Rattle.nq_history.specs.Events.{events_at}
 use Rattle.nq_kernel.specs.declared.work.Work.{Work}
@@ -98,13 +98,9 @@ pub record IsSizeOf (bank : Content) (measure : TermId) (x : Sym) : Type 0 where
   pub named : IsNamed bank x
   pub size : term_at bank measure ≡ size_of_variable (text_at bank x)
 
--- For now, nests of the ground history's shells alone are sought: those of a history without events.
-abbrev pub sought_in : History → History
-sought_in h = []
-
--- the call takes a part of what stands for the variable
+-- the call takes a part of what stands for the variable, by the accessors of a covered shell
 abbrev pub Descends : History → List Name → Name → Call → Type 0
-Descends h xs x c = IsStructuralNest (sought_in h) (Variable x) c.tests (value_at (matched xs c.arguments) x)
+Descends h xs x c = IsCoveredNest h (Variable x) c.tests (value_at (matched xs c.arguments) x)
 
 abbrev pub DescendsAt : List Entry → Content → List Sym → Sym → Site → Type 0
 DescendsAt history bank formals x s = Descends (events_at bank history) (texts_at bank formals) (text_at bank x) (site_at bank s)
@@ -119,7 +115,7 @@ pub record IsEvidence (work : Work) (f : Sym) (formals : List Sym) (measure : Te
   pub ordinal : LineHasOnly work evidence.ordinal (ordinal_clause (term_at work.bank measure))
   pub falls : AreFallLines work f formals measure sites evidence.falls.items
 
--- the measure is no size of a variable in which the definition is structural
+-- the measure is no size of a variable of which each call takes such a part
 abbrev pub IsNotStructural : List Entry → Content → List Sym → TermId → List Site → Type 0
 IsNotStructural history bank formals measure sites = (x : Name) → term_at bank measure ≡ size_of_variable x → AllDescend history bank formals x sites → ⊥
 

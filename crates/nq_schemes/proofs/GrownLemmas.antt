@@ -4,6 +4,7 @@ use Rattle.std.specs.Prelude.{All, Option, Some, None, IfSome, Vec}
 use Rattle.std.specs.declared.alloc.Global.{Global}
 use Rattle.nq_logic.specs.Terms.{Term, Variable}
 use Rattle.nq_logic.specs.Words.{call1}
+use Rattle.nq_logic.specs.Histories.{History}
 use Rattle.nq_bank.specs.declared.node.Sym.{Sym}
 use Rattle.nq_bank.specs.declared.node.TermId.{TermId}
 use Rattle.nq_bank.proofs.Growth.{IsNamed-grown, text_at-grown}
@@ -11,7 +12,10 @@ use Rattle.nq_bank.proofs.Standing.{All-push}
 use Rattle.nq_rule.specs.declared.induction.InductionStep.{InductionStep}
 use Rattle.nq_history.specs.declared.entry.Entry.{Entry}
 use Rattle.nq_kernel.specs.declared.work.Work.{Work}
+use Rattle.nq_history.specs.Events.{events_at}
+use Rattle.nq_history.proofs.HistoryLemmas.{events_at-grown}
 use Rattle.nq_kernel.specs.Growing.{WorkStands, WorkGrows}
+use Rattle.nq_kernel.specs.Ready.{IsReady}
 use Rattle.nq_lines.specs.Lines.{IsTermIn, LineHasOnly}
 use Rattle.nq_lines.proofs.FactLemmas.{own_terms_grown}
 use Rattle.nq_lines.proofs.LineLemmas.{only_grown, line_grown}
@@ -59,6 +63,9 @@ module _ (history : List Entry) (old new : Work) (stands : WorkStands history ol
         line = subst (λ (t : Term). LineHasOnly new f.line (call1 "ORDINALP" t ∷ [])) (sym (same_term_grown history old new f.term grows h.term)) (only_grown history old new f.line _ stands grows h.line);
       }
 
+  pub ready_grown : IsReady (events_at old.bank history) → IsReady (events_at new.bank history)
+  ready_grown ready = subst (λ (h : History). IsReady h) (sym (events_at-grown old.bank new.bank grows.bank history stands.history.entries)) ready
+
   pub basis_grown : (b : Basis) → IsBasisIn history old b → IsBasisIn history new b
   basis_grown b h =
       let kept : IsOrdinalIn history new (record { term = b.measure; line = b.ordinal }) = ordinal_grown (record { term = b.measure; line = b.ordinal }) (record { term = h.measure; line = h.ordinal }) in
@@ -68,6 +75,7 @@ module _ (history : List Entry) (old new : Work) (stands : WorkStands history ol
         measure = kept.term;
         ordinal = kept.line;
         shown = shown_truth_grown history old new stands grows b.shown h.shown;
+        ready = ready_grown h.ready;
         own = own_terms_grown history old new grows stands h.own;
       }
 

@@ -4,6 +4,7 @@ use Rattle.std.specs.Prelude.{Option, IfSome, IsSome, MatchOption, map}
 use Rattle.std.specs.Option.{option_map}
 use Rattle.nq_logic.specs.Terms.{Term, Variable, Each, IsAmong, Substitution, substituted}
 use Rattle.nq_logic.specs.Words.{call1, call2}
+use Rattle.nq_logic.specs.Histories.{History}
 use Rattle.nq_logic.specs.Ground.{symbols_of}
 use Rattle.nq_logic.proofs.Symbols.{count_symbol, ord_lessp_symbol, ordinalp_symbol}
 use Rattle.nq_bank.specs.declared.node.TermId.{TermId}
@@ -43,9 +44,9 @@ module _ (history : List Entry) (work : Work) where
   variable_spelled t x h is = (subst (λ (u : Term). IsOver u) is h.over).variables
 
 -- lines that stand
-pub part_stands : (work : Work) (P : Type 0) (tests : List Term) (x t : Term) (found : Option ℕ) → MatchOption found P (IsDecreaseLine [] work tests x t) → IfSome found (LineStands work)
-part_stands work P tests x t None h = tt
-part_stands work P tests x t (Some n) h = only_stands work n _ h.line
+pub part_stands : (work : Work) (h : History) (P : Type 0) (tests : List Term) (x t : Term) (found : Option ℕ) → MatchOption found P (IsDecreaseLine h work tests x t) → IfSome found (LineStands work)
+part_stands work h P tests x t None w = tt
+part_stands work h P tests x t (Some n) w = only_stands work n _ w.line
 
 pub found_stands : (work : Work) (these : List Term) (found : Option ℕ) → IfSome found (λ n. LineHasOnly work n these) → IfSome found (LineStands work)
 found_stands work these None h = tt

@@ -7,6 +7,7 @@ use Rattle.nq_history.specs.declared.entry.Entry.{Entry}
 use Rattle.nq_history.specs.Events.{events_at}
 use Rattle.nq_kernel.specs.declared.work.Work.{Work}
 use Rattle.nq_kernel.specs.Growing.{LineStands}
+use Rattle.nq_kernel.specs.Ready.{IsReady}
 use Rattle.nq_lines.specs.Lines.{IsTermIn, LineHasOnly}
 use Rattle.nq_lines.specs.Instances.{ArePairsIn}
 use Rattle.nq_lines.specs.OwnTerms.{HasOwnTerms}
@@ -25,14 +26,15 @@ pub record IsOrdinalIn (history : List Entry) (work : Work) (f : Fact) : Type 0 
   pub term : IsTermIn history work f.term
   pub line : LineHasOnly work f.line (call1 "ORDINALP" (term_at work.bank f.term) ∷ [])
 
--- the calls and the variable are over the history, whose axioms and lemmas are over its own functions, and a line shows that the
--- measure is an ordinal
+-- the calls and the variable are over the history, which is ready, with axioms and lemmas over its own functions, and a line shows
+-- that the measure is an ordinal
 pub record IsBasisIn (history : List Entry) (work : Work) (b : Basis) : Type 0 where
   pub opened : All (IsOpenedIn history work) b.opened.items
   pub sized : IfSome b.sized (IsSizedIn history work)
   pub measure : IsTermIn history work b.measure
   pub ordinal : LineHasOnly work b.ordinal (call1 "ORDINALP" (term_at work.bank b.measure) ∷ [])
   pub shown : IsShownTruth history work b.shown
+  pub ready : IsReady (events_at work.bank history)
   pub own : HasOwnTerms (events_at work.bank history)
 
 -- the step's line stands, and its pairs are distinct variables with terms over the history

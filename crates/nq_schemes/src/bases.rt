@@ -1,12 +1,12 @@
 //! What the lines of a scheme stand on.
 ghost use Rattle.std.specs.Prelude.{◌≡◌, ◌++◌, ◌∷◌, [], All, IfOk, IfSome, Err};
 ghost use Rattle.nq_kernel.specs.Growing.{WorkStands, WorkGrows};
+ghost use Rattle.nq_kernel.specs.Ready.{IsReady};
 ghost use Rattle.nq_lines.specs.Lines.{IsTermIn};
 ghost use Rattle.nq_lines.specs.Instances.{ArePairsIn};
 ghost use Rattle.nq_schemes.specs.Known.{IsOpenedIn};
 ghost use Rattle.nq_schemes.specs.Steps.{IsBasisIn, IsOrdinalIn, IsSizedIn};
 ghost use Rattle.nq_history.specs.Events.{events_at};
-ghost use Rattle.nq_lines.specs.OwnTerms.{HasOwnTerms};
 
 use crate::basis::{Basis, SizedVariable};
 use crate::draft::Change;
@@ -23,6 +23,7 @@ use nq_history::History;
 use nq_induct::known_truth;
 use nq_kernel::{Stop, Work};
 use nq_lines::Fact;
+use nq_ready::own_terms;
 
 /// The size of a variable, and the line that it is an ordinal.
 fn ordinal_of_size(work: &mut Work, history: &History, whole: SizedVariable) -> Result<Fact, Stop>
@@ -121,7 +122,7 @@ fn basis_with(
     arithmetic: bool,
 ) -> Result<Basis, Stop>
     requires stands { WorkStands history.now work.old }
-    requires own { HasOwnTerms (events_at work.old.bank history.now) }
+    requires ready { IsReady (events_at work.old.bank history.now) }
     requires opened { All (IsOpenedIn history.now work.old) opened.items }
     requires sized { IfSome sized (IsSizedIn history.now work.old) }
     requires ordinal { IsOrdinalIn history.now work.old ordinal }
@@ -129,6 +130,7 @@ fn basis_with(
     ensures grows { WorkGrows history.now work.old work.new }
     ensures out { result ≡ Err Stop.OutOfSteps → work.new.counter.used ≡ work.new.counter.limit }
 {
+    own_terms();
     let shown = known_truth(work, history)?;
     Ok(Basis {
         opened,
@@ -149,7 +151,7 @@ fn basis_of_size(
     arithmetic: bool,
 ) -> Result<Option<Basis>, Stop>
     requires stands { WorkStands history.now work.old }
-    requires own { HasOwnTerms (events_at work.old.bank history.now) }
+    requires ready { IsReady (events_at work.old.bank history.now) }
     requires opened { All (IsOpenedIn history.now work.old) opened.items }
     ensures basis { IfOk result (λ found. IfSome found (IsBasisIn history.now work.new)) }
     ensures grows { WorkGrows history.now work.old work.new }
@@ -175,7 +177,7 @@ fn basis_of_measure(
     arithmetic: bool,
 ) -> Result<Option<Basis>, Stop>
     requires stands { WorkStands history.now work.old }
-    requires own { HasOwnTerms (events_at work.old.bank history.now) }
+    requires ready { IsReady (events_at work.old.bank history.now) }
     requires opened { All (IsOpenedIn history.now work.old) opened.items }
     ensures basis { IfOk result (λ found. IfSome found (IsBasisIn history.now work.new)) }
     ensures grows { WorkGrows history.now work.old work.new }
@@ -200,7 +202,7 @@ pub fn basis_of(
     arithmetic: bool,
 ) -> Result<Option<Basis>, Stop>
     requires stands { WorkStands history.now work.old }
-    requires own { HasOwnTerms (events_at work.old.bank history.now) }
+    requires ready { IsReady (events_at work.old.bank history.now) }
     requires opened { All (IsOpenedIn history.now work.old) opened.items }
     ensures basis { IfOk result (λ found. IfSome found (IsBasisIn history.now work.new)) }
     ensures grows { WorkGrows history.now work.old work.new }

@@ -26,7 +26,6 @@ use nq_bank::TermId;
 use nq_clause::Pair;
 use nq_history::History;
 use nq_kernel::{Stop, Work};
-use nq_ready::own_terms;
 
 /// The line that one of some literals holds, by the axioms of shells, by linear arithmetic, or by what is known.
 pub fn line_at_hand(
@@ -257,7 +256,7 @@ fn owed_falling(
     arithmetic: bool,
 ) -> Result<Vec<Vec<TermId>>, Stop>
     requires stands { WorkStands history.now work.old }
-    requires own { HasOwnTerms (events_at work.old.bank history.now) }
+    requires ready { IsReady (events_at work.old.bank history.now) }
     requires opened { All (IsOpenedIn history.now work.old) opened.items }
     ensures goals { IfOk result (λ v. AreGoalsIn history.now work.new v.items) }
     ensures grows { WorkGrows history.now work.old work.new }
@@ -278,7 +277,7 @@ fn owed_of(
     arithmetic: bool,
 ) -> Result<Vec<Vec<TermId>>, Stop>
     requires stands { WorkStands history.now work.old }
-    requires own { HasOwnTerms (events_at work.old.bank history.now) }
+    requires ready { IsReady (events_at work.old.bank history.now) }
     requires opened { All (IsOpenedIn history.now work.old) opened.items }
     ensures goals { IfOk result (λ v. AreGoalsIn history.now work.new v.items) }
     ensures grows { WorkGrows history.now work.old work.new }
@@ -305,7 +304,6 @@ pub fn owed_falls(
     ensures grows { WorkGrows history.now work.old work.new }
     ensures out { result ≡ Err Stop.OutOfSteps → work.new.counter.used ≡ work.new.counter.limit }
 {
-    own_terms();
     let calls = [call];
     let opened = all_opened(work, history, &calls, &calls)?;
     let drafts = drafts_at(work, history, opened.as_slice())?;

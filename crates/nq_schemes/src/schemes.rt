@@ -8,7 +8,6 @@ ghost use Rattle.nq_induct.specs.Schemes.{IsCaseIn, IsSchemeIn};
 ghost use Rattle.nq_schemes.specs.Known.{IsOpenedIn, with_some};
 ghost use Rattle.nq_schemes.specs.Steps.{IsBasisIn};
 ghost use Rattle.nq_schemes.specs.Suggesting.{NoneSuggests, NoneSuggestsIn};
-ghost use Rattle.nq_lines.specs.OwnTerms.{HasOwnTerms};
 
 use crate::bases::basis_of;
 use crate::basis::Basis;
@@ -25,7 +24,6 @@ use nq_history::History;
 use nq_induct::{Case, Scheme};
 use nq_kernel::{Stop, Work};
 use nq_normal::suggests_induction;
-use nq_ready::own_terms;
 
 /// One case more, if there is one.
 fn add_case(cases: &mut Vec<Case>, found: Option<Case>) -> Result<(), Stop>
@@ -106,7 +104,7 @@ fn scheme_falling(
     arithmetic: bool,
 ) -> Result<Option<Scheme>, Stop>
     requires stands { WorkStands history.now work.old }
-    requires own { HasOwnTerms (events_at work.old.bank history.now) }
+    requires ready { IsReady (events_at work.old.bank history.now) }
     requires opened { All (IsOpenedIn history.now work.old) opened.items }
     ensures scheme { IfOk result (λ found. IfSome found (IsSchemeIn history.now work.new)) }
     ensures grows { WorkGrows history.now work.old work.new }
@@ -127,7 +125,7 @@ fn scheme_at(
     arithmetic: bool,
 ) -> Result<Option<Scheme>, Stop>
     requires stands { WorkStands history.now work.old }
-    requires own { HasOwnTerms (events_at work.old.bank history.now) }
+    requires ready { IsReady (events_at work.old.bank history.now) }
     requires opened { All (IsOpenedIn history.now work.old) opened.items }
     ensures scheme { IfOk result (λ found. IfSome found (IsSchemeIn history.now work.new)) }
     ensures grows { WorkGrows history.now work.old work.new }
@@ -184,7 +182,7 @@ fn scheme_of_place(
     arithmetic: bool,
 ) -> Result<Option<Scheme>, Stop>
     requires stands { WorkStands history.now work.old }
-    requires own { HasOwnTerms (events_at work.old.bank history.now) }
+    requires ready { IsReady (events_at work.old.bank history.now) }
     requires opened { All (IsOpenedIn history.now work.old) opened.items }
     ensures scheme { IfOk result (λ found. IfSome found (IsSchemeIn history.now work.new)) }
     ensures grows { WorkGrows history.now work.old work.new }
@@ -212,7 +210,6 @@ fn scheme_of_calls(
     ensures grows { WorkGrows history.now work.old work.new }
     ensures out { result ≡ Err Stop.OutOfSteps → work.new.counter.used ≡ work.new.counter.limit }
 {
-    own_terms();
     let opened = all_opened(work, history, goal, calls)?;
     let mut drafts = drafts_at(work, history, opened.as_slice())?;
     let apart = drafts_at(work, history, opened.as_slice())?;

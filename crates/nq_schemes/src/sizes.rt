@@ -3,7 +3,9 @@ ghost use Rattle.std.specs.Prelude.{◌≡◌, ◌≤◌, ◌∷◌, [], All, If
 ghost use Rattle.nq_logic.specs.Words.{call1};
 ghost use Rattle.nq_logic.specs.Sizes.{depth_of};
 ghost use Rattle.nq_bank.specs.Content.{IsIdOf, term_at};
+ghost use Rattle.nq_history.specs.Events.{events_at};
 ghost use Rattle.nq_kernel.specs.Growing.{WorkStands, WorkGrows, LineStands};
+ghost use Rattle.nq_kernel.specs.Ready.{IsReady};
 ghost use Rattle.nq_lines.specs.Lines.{IsTermIn, LineHasOnly};
 ghost use Rattle.nq_decrease.specs.LawLines.{term_room};
 ghost use Rattle.nq_schemes.specs.Steps.{IsSizedIn};
@@ -64,6 +66,7 @@ fn kept_part_line(
     key: u64,
 ) -> Result<Option<u64>, AllocError>
     requires stands { WorkStands history.now work.old }
+    requires ready { IsReady (events_at work.old.bank history.now) }
     requires whole { IsSizedIn history.now work.old whole }
     requires part { IsTermIn history.now work.old part }
     requires tests { All (IsTermIn history.now work.old) tests.now }
@@ -87,6 +90,7 @@ fn part_line_at(
     tests: &[TermId],
 ) -> Result<Option<u64>, AllocError>
     requires stands { WorkStands history.now work.old }
+    requires ready { IsReady (events_at work.old.bank history.now) }
     requires whole { IsSizedIn history.now work.old whole }
     requires part { IsTermIn history.now work.old part }
     requires tests { All (IsTermIn history.now work.old) tests.now }
@@ -110,6 +114,7 @@ pub fn part_line(
     tests: &[TermId],
 ) -> Result<Option<u64>, Stop>
     requires stands { WorkStands history.now work.old }
+    requires ready { IsReady (events_at work.old.bank history.now) }
     requires whole { IsSizedIn history.now work.old whole }
     requires part { IsTermIn history.now work.old part }
     requires tests { All (IsTermIn history.now work.old) tests.now }

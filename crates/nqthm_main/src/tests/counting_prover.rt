@@ -2,6 +2,8 @@
 ghost use Rattle.std.specs.Prelude.{◌≡◌, length};
 ghost use Rattle.nq_kernel.specs.Proving.{HasGround};
 
+use super::joined;
+use super::shells::STACKS;
 use nq_bank::{Bank, Mark, TermId};
 use nq_history::{GROUND_LENGTH, Hints, History};
 use nq_io::{MemSink, MemSource, SureSink};
@@ -10,6 +12,10 @@ use nq_quick::FirstPass;
 use nq_run::run_events;
 use std::alloc::{AllocError, Global};
 use std::test::Fail;
+
+/// A shell without a base, each part of which has a restriction with a base for its default.
+const PAIRS: &[u8] =
+    b"(ADD-SHELL PAIR NIL PAIRP ((FIRST (ONE-OF STACKP NUMBERP) EMPTY-STACK) (SECOND (NONE-OF LISTP) ZERO)))\n";
 
 /// How many entries were learnt, how many lemmas were tried, and where the bank ended when the last entry was learnt.
 #[derive(Drop)]
@@ -61,8 +67,12 @@ impl Prover for CountingProver {
     }
 }
 
-/// A prover after the run of some forms, and whether the run came to their end.
-fn after_forms(alloc: Global, forms: &[u8]) -> Result<(CountingProver, bool), AllocError> {
+/// A prover after the run of some forms under a step limit, and whether the run came to their end.
+fn after_forms(
+    alloc: Global,
+    forms: &[u8],
+    limit: u64,
+) -> Result<(CountingProver, bool), AllocError> {
     let mut source = MemSource::new(forms.to_vec(alloc)?, 64, Vec::new(alloc));
     let mut comment = MemSink::new(alloc, Vec::new(alloc));
     let mut log = SureSink::new(alloc);
@@ -74,7 +84,7 @@ fn after_forms(alloc: Global, forms: &[u8]) -> Result<(CountingProver, bool), Al
         &mut log,
         false,
         &mut prover,
-        1000,
+        limit,
     );
     Ok((prover, ended.is_ok()))
 }
@@ -107,7 +117,7 @@ fn a_prover_learns_just_the_entries_that_stand(rt: HostRuntime) -> Result<(), Fa
             0,
         ),
     ] {
-        let (prover, ended) = after_forms(rt.alloc(), forms)?;
+        let (prover, ended) = after_forms(rt.alloc(), forms, 1000)?;
         assert!(rt; ended);
         assert_eq!(rt; prover.learnt, GROUND_LENGTH as u64 + past_ground);
         assert_eq!(rt; prover.tried, tried);
@@ -116,8 +126,32 @@ fn a_prover_learns_just_the_entries_that_stand(rt: HostRuntime) -> Result<(), Fa
 }
 
 #[test]
+fn what_is_structural_by_a_covered_shell_asks_no_prover(rt: HostRuntime) -> Result<(), Fail> {
+    for body in [
+        // by a shell with a base, each part of which has a restriction with a base for its default
+        b"(IF (STACKP X) (IF (EQUAL X (EMPTY-STACK)) 0 (PLUS (H (TOP X)) (H (POP X)))) 0)".as_slice(),
+        b"(IF (EQUAL (EMPTY-STACK) X) 0 (IF (STACKP X) (H (POP X)) 0))",
+        // by one without a base
+        b"(IF (PAIRP X) (PLUS (H (FIRST X)) (H (SECOND X))) 0)",
+        // by another shell at each call
+        b"(IF (LISTP X) (H (CDR X)) (IF (PAIRP X) (H (SECOND X)) 0))",
+        // by nests, with a test at each level
+        b"(IF (PAIRP X) (IF (PAIRP (SECOND X)) (H (FIRST (SECOND X))) 0) 0)",
+        // under a test that calls the function
+        b"(IF (PAIRP X) (IF (H (FIRST X)) (H (SECOND X)) 0) X)",
+    ] {
+        let forms = joined(rt.alloc(), &[STACKS, PAIRS, b"(DEFN H (X) ", body, b")"])?;
+        let (prover, ended) = after_forms(rt.alloc(), forms.as_slice(), 0)?;
+        assert!(rt; ended);
+        assert_eq!(rt; prover.learnt, GROUND_LENGTH as u64 + 3);
+        assert_eq!(rt; prover.tried, 0);
+    }
+    Ok(())
+}
+
+#[test]
 fn a_form_that_is_not_taken_leaves_nothing_in_the_bank(rt: HostRuntime) -> Result<(), Fail> {
-    let (plain, ended) = after_forms(rt.alloc(), b"(DCL E (X)) (DCL G (X))")?;
+    let (plain, ended) = after_forms(rt.alloc(), b"(DCL E (X)) (DCL G (X))", 1000)?;
     assert!(rt; ended);
     for between in [
         // refused before and after its terms were read, and skipped
@@ -135,7 +169,7 @@ fn a_form_that_is_not_taken_leaves_nothing_in_the_bank(rt: HostRuntime) -> Resul
         let mut forms = b"(DCL E (X)) ".to_vec(rt.alloc())?;
         forms.extend_from_slice(between)?;
         forms.extend_from_slice(b" (DCL G (X))")?;
-        let (other, ended) = after_forms(rt.alloc(), forms.as_slice())?;
+        let (other, ended) = after_forms(rt.alloc(), forms.as_slice(), 1000)?;
         assert!(rt; ended);
         assert_eq!(rt; other.learnt, plain.learnt);
         assert_eq!(rt; other.end, plain.end);

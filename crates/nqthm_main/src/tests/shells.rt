@@ -3,7 +3,8 @@ use super::{Given, answer_to, joined};
 use std::alloc::{AllocError, Global};
 use std::test::Fail;
 
-const STACKS: &[u8] =
+/// A shell with a base, whose parts have restrictions with bases for their defaults.
+pub(super) const STACKS: &[u8] =
     b"(ADD-SHELL PUSH EMPTY-STACK STACKP ((TOP (ONE-OF NUMBERP) ZERO) (POP (ONE-OF STACKP) EMPTY-STACK)))\n";
 
 const STACKS_REPORT: &[u8] = b"1. ADD-SHELL PUSH\n   Accepted.\n";

@@ -4,10 +4,10 @@ use Rattle.nq_bank.specs.Content.{text_at, term_at, terms_at}
 use Rattle.nq_proof.proofs.Tests.{same_true}
 use Rattle.nq_lines.proofs.TermLemmas.{term_grown}
 use Rattle.nq_replay.proofs.UncountedLemmas.{grown_refl, grown_trans}
-use Rattle.nq_decrease.specs.LawLines.{term_room}
+use Rattle.nq_part_lines.specs.LawLines.{term_room}
 use Rattle.nq_decrease.specs.Levels.{shell_of}
 use Rattle.nq_decrease.specs.Nests.{IsNestOf, IsNestLine}
-use Rattle.nq_decrease.proofs.DescentLemmas.{room_grown}
+use Rattle.nq_part_lines.proofs.GrownLemmas.{room_grown}
 use Rattle.nq_decrease.proofs.NestLemmas.{level_right, no_call_nest, no_level_nest, no_rest_nest}
 use Rattle.nq_decrease.proofs.NestLines.{room_within, last_line, found_some, found_none, same_in, inner_in, outer_in, outer_part, outer_made}
 use Rattle.nq_decrease.proofs.descents.+descend.Goals as goal

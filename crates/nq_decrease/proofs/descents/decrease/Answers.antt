@@ -5,69 +5,45 @@ use Rattle.nq_bank.specs.Content.{text_at, term_at, terms_at}
 use Rattle.nq_bank.proofs.Growth.{Stands-grown, term_at-grown, terms_at-grown}
 use Rattle.nq_bank.proofs.Standing.{stand_grown}
 use Rattle.nq_rule.proofs.Made.{for_ok}
-use Rattle.nq_replay.proofs.UncountedLemmas.{grown_refl, grown_trans}
-use Rattle.nq_decrease.specs.LawLines.{term_room}
-use Rattle.nq_decrease.specs.Nests.{IsOfShell}
-use Rattle.nq_decrease.proofs.NestLemmas.{no_structural}
-use Rattle.nq_decrease.proofs.NestLines.{IsFound, found_grown, variable_room}
+use Rattle.nq_history.specs.Events.{events_at}
+use Rattle.nq_replay.proofs.UncountedLemmas.{grown_trans}
+use Rattle.nq_part_lines.specs.LawLines.{term_room}
+use Rattle.nq_decrease.proofs.NestLines.{variable_room}
+use Rattle.nq_decrease.proofs.OwnGrownLemmas.{ready_grown, same_events}
+use Rattle.nq_decrease.proofs.OwnShellLemmas.{IsFound, found_moved}
 use Rattle.nq_decrease.proofs.descents.decrease.Goals as goal
 
-pub returns-in-None-clause-answer : goal.returns-in-None-clause-answer
-returns-in-None-clause-answer c =
-    let old = c.args.work.now in
-    no_structural (terms_at old.bank c.args.tests.now) (Variable (text_at old.bank c.args.x)) (term_at old.bank c.args.nest) c.in-None.ensures
-
-pub returns-in-None-clause-grows : goal.returns-in-None-clause-grows
-returns-in-None-clause-grows c =
-    grown_refl c.args.history.now c.args.work.now c.requires.stands
+pub decrease_of-requires-clause-ready : goal.decrease_of-requires-clause-ready
+decrease_of-requires-clause-ready c = ready_grown c.args.history.now c.args.work.now c.variable.new.work c.variable.ensures.grows.grows c.requires.stands c.requires.ready
 
 pub decrease_of-requires-clause-nest : goal.decrease_of-requires-clause-nest
-decrease_of-requires-clause-nest c =
-    let old = c.args.work.now in
-    let one = c.variable.new.work in
-    let grows = c.variable.ensures.grows.grows.bank in
-    Stands-grown old.bank one.bank c.args.nest grows c.requires.nest
+decrease_of-requires-clause-nest c = Stands-grown c.args.work.now.bank c.variable.new.work.bank c.args.nest c.variable.ensures.grows.grows.bank c.requires.nest
 
 pub decrease_of-requires-clause-tests : goal.decrease_of-requires-clause-tests
-decrease_of-requires-clause-tests c =
-    let old = c.args.work.now in
-    let one = c.variable.new.work in
-    let grows = c.variable.ensures.grows.grows.bank in
-    stand_grown old.bank one.bank c.args.tests.now grows c.requires.tests
-
-pub decrease_of-requires-clause-kind : goal.decrease_of-requires-clause-kind
-decrease_of-requires-clause-kind c =
-    let old = c.args.work.now in
-    let one = c.variable.new.work in
-    let grows = c.variable.ensures.grows.grows.bank in
-    subst (λ t. IsOfShell t c.in-Some.kind) (sym (term_at-grown old.bank one.bank c.args.nest grows c.requires.nest)) c.in-Some.ensures
+decrease_of-requires-clause-tests c = stand_grown c.args.work.now.bank c.variable.new.work.bank c.args.tests.now c.variable.ensures.grows.grows.bank c.requires.tests
 
 pub decrease_of-requires-clause-room : goal.decrease_of-requires-clause-room
-decrease_of-requires-clause-room c =
-    let old = c.args.work.now in
-    let one = c.variable.new.work in
-    let grows = c.variable.ensures.grows.grows.bank in
-    subst (λ t. depth_of t ≤ term_room) (sym c.in_ok-whole-in-Some.ensures.variable.denotes) (variable_room (text_at old.bank c.args.x))
+decrease_of-requires-clause-room c = subst (λ t. depth_of t ≤ term_room) (sym c.in_ok-whole.ensures.variable.denotes) (variable_room (text_at c.args.work.now.bank c.args.x))
 
 pub decrease_of-requires-clause-shallow : goal.decrease_of-requires-clause-shallow
 decrease_of-requires-clause-shallow c =
-    let old = c.args.work.now in
-    let one = c.variable.new.work in
-    let grows = c.variable.ensures.grows.grows.bank in
-    subst (λ t. depth_of t ≤ term_room) (sym (term_at-grown old.bank one.bank c.args.nest grows c.requires.nest)) c.requires.shallow
+    subst (λ t. depth_of t ≤ term_room) (sym (term_at-grown c.args.work.now.bank c.variable.new.work.bank c.args.nest c.variable.ensures.grows.grows.bank c.requires.nest)) c.requires.shallow
 
-pub returns-in_ok-whole-in-Some-clause-answer : goal.returns-in_ok-whole-in-Some-clause-answer
-returns-in_ok-whole-in-Some-clause-answer c =
+pub returns-clause-answer : goal.returns-clause-answer
+returns-clause-answer c =
+    let h = c.args.history.now in
     let old = c.args.work.now in
     let one = c.variable.new.work in
-    let grows = c.variable.ensures.grows.grows.bank in
     let new = c.decrease_of.new.work in
+    let grows = c.variable.ensures.grows.grows in
+    let events = events_at old.bank h in
+    let tests = terms_at old.bank c.args.tests.now in
     let x : Term = Variable (text_at old.bank c.args.x) in
-    let same = term_at-grown old.bank one.bank c.args.nest grows c.requires.nest in
-    let all = terms_at-grown old.bank one.bank c.args.tests.now grows c.requires.tests in
-    for_ok c.decrease_of.result (IsFound new (terms_at one.bank c.args.tests.now) (term_at one.bank c.in_ok-whole-in-Some.whole) (term_at one.bank c.args.nest)) (IsFound new (terms_at old.bank c.args.tests.now) x (term_at old.bank c.args.nest)) (λ r f.
-    found_grown old.bank one.bank new c.in_ok-whole-in-Some.whole c.args.nest c.args.tests.now x r c.in_ok-whole-in-Some.ensures.variable same all f) c.decrease_of.ensures.answer
+    let z = term_at old.bank c.args.nest in
+    let whole = c.in_ok-whole.whole in
+    for_ok c.decrease_of.result (IsFound (events_at one.bank h) new (terms_at one.bank c.args.tests.now) (term_at one.bank whole) (term_at one.bank c.args.nest)) (IsFound events new tests x z) (λ r f.
+    found_moved new events (events_at one.bank h) tests (terms_at one.bank c.args.tests.now) x (term_at one.bank whole) z (term_at one.bank c.args.nest) r (same_events h old one grows c.requires.stands)
+    (terms_at-grown old.bank one.bank c.args.tests.now grows.bank c.requires.tests) c.in_ok-whole.ensures.variable.denotes (term_at-grown old.bank one.bank c.args.nest grows.bank c.requires.nest) f) c.decrease_of.ensures.answer
 
-pub returns-in_ok-whole-in-Some-clause-grows : goal.returns-in_ok-whole-in-Some-clause-grows
-returns-in_ok-whole-in-Some-clause-grows c =
-    grown_trans c.args.history.now c.args.work.now c.variable.new.work c.decrease_of.new.work c.variable.ensures.grows c.decrease_of.ensures.grows
+pub returns-clause-grows : goal.returns-clause-grows
+returns-clause-grows c = grown_trans c.args.history.now c.args.work.now c.variable.new.work c.decrease_of.new.work c.variable.ensures.grows c.decrease_of.ensures.grows

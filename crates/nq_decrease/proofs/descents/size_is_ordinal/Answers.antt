@@ -8,7 +8,7 @@ use Rattle.nq_lines.specs.Instances.{InstancesTo}
 use Rattle.nq_lines.proofs.TermLemmas.{term_grown, same_term_grown}
 use Rattle.nq_replay.specs.LawClauses.{size_is_ordinal_clause}
 use Rattle.nq_replay.proofs.UncountedLemmas.{grown_trans}
-use Rattle.nq_decrease.specs.LawLines.{IsLaw}
+use Rattle.nq_part_lines.specs.LawLines.{IsLaw}
 use Rattle.nq_decrease.proofs.DescentLemmas.{ordinal_is_law, ordinal_made}
 use Rattle.nq_decrease.proofs.descents.size_is_ordinal.Goals as goal
 

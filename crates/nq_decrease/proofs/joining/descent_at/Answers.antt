@@ -7,9 +7,10 @@ use Rattle.nq_lines.specs.Instances.{InstancesTo}
 use Rattle.nq_lines.proofs.TermLemmas.{term_grown}
 use Rattle.nq_replay.specs.LawClauses.{sizes_descend_clause}
 use Rattle.nq_replay.proofs.UncountedLemmas.{grown_trans}
-use Rattle.nq_decrease.specs.LawLines.{IsLaw}
-use Rattle.nq_decrease.specs.Nests.{three_pairs}
-use Rattle.nq_decrease.proofs.DescentLemmas.{descent_is_law, descent_made, room_grown, three_grown}
+use Rattle.nq_part_lines.specs.LawLines.{IsLaw}
+use Rattle.nq_part_lines.specs.Pairs.{three_pairs}
+use Rattle.nq_decrease.proofs.DescentLemmas.{descent_is_law, descent_made}
+use Rattle.nq_part_lines.proofs.GrownLemmas.{room_grown, three_grown}
 use Rattle.nq_decrease.proofs.joining.descent_at.Goals as goal
 
 pub at_three-requires-clause-line : goal.at_three-requires-clause-line

@@ -8,7 +8,7 @@ use Rattle.nq_lines.specs.Lines.{LineHasOnly}
 use Rattle.nq_lines.specs.Instances.{InstancesTo}
 use Rattle.nq_lines.proofs.TermLemmas.{term_grown, same_term_grown}
 use Rattle.nq_replay.proofs.UncountedLemmas.{grown_trans}
-use Rattle.nq_decrease.specs.LawLines.{IsLaw, term_room}
+use Rattle.nq_part_lines.specs.LawLines.{IsLaw, term_room}
 use Rattle.nq_decrease.specs.Levels.{clause_of}
 use Rattle.nq_decrease.proofs.InstanceLemmas.{level_law, level_literals, level_made}
 use Rattle.nq_decrease.proofs.levels.level_line.Goals as goal

@@ -1,10 +1,9 @@
 use Rattle.nq_kernel.proofs.GrowingLemmas.{WorkGrows-refl, WorkGrows-trans}
-use Rattle.nq_lines.proofs.FactLemmas.{own_terms_grown}
-use Rattle.nq_schemes.proofs.GrownLemmas.{opened_grown}
+use Rattle.nq_schemes.proofs.GrownLemmas.{opened_grown, ready_grown}
 use Rattle.nq_schemes.proofs.bases.basis_of_size.Goals as goal
 
-pub basis_with-requires-clause-own : goal.basis_with-requires-clause-own
-basis_with-requires-clause-own c = own_terms_grown c.args.history.now c.args.work.now c.ordinal_of_size.new.work c.ordinal_of_size.ensures.grows c.requires.stands c.requires.own
+pub basis_with-requires-clause-ready : goal.basis_with-requires-clause-ready
+basis_with-requires-clause-ready c = ready_grown c.args.history.now c.args.work.now c.ordinal_of_size.new.work c.requires.stands c.ordinal_of_size.ensures.grows c.requires.ready
 
 pub basis_with-requires-clause-opened : goal.basis_with-requires-clause-opened
 basis_with-requires-clause-opened c = opened_grown c.args.history.now c.args.work.now c.ordinal_of_size.new.work c.requires.stands c.ordinal_of_size.ensures.grows c.args.opened.items c.requires.opened

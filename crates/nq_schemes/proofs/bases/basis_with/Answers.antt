@@ -1,5 +1,5 @@
 use Rattle.nq_lines.proofs.FactLemmas.{own_terms_grown}
-use Rattle.nq_schemes.proofs.GrownLemmas.{opened_grown, sized_grown, ordinal_grown}
+use Rattle.nq_schemes.proofs.GrownLemmas.{opened_grown, ready_grown, sized_grown, ordinal_grown}
 use Rattle.nq_schemes.proofs.bases.basis_with.Goals as goal
 
 pub returns-clause-basis : goal.returns-clause-basis
@@ -9,5 +9,6 @@ returns-clause-basis c = record {
   measure = (ordinal_grown c.args.history.now c.args.work.now c.known_truth.new.work c.requires.stands c.known_truth.ensures.grows c.args.ordinal c.requires.ordinal).term;
   ordinal = (ordinal_grown c.args.history.now c.args.work.now c.known_truth.new.work c.requires.stands c.known_truth.ensures.grows c.args.ordinal c.requires.ordinal).line;
   shown = c.in_ok-shown.ensures.truth;
-  own = own_terms_grown c.args.history.now c.args.work.now c.known_truth.new.work c.known_truth.ensures.grows c.requires.stands c.requires.own;
+  ready = ready_grown c.args.history.now c.args.work.now c.known_truth.new.work c.requires.stands c.known_truth.ensures.grows c.requires.ready;
+  own = own_terms_grown c.args.history.now c.args.work.now c.known_truth.new.work c.known_truth.ensures.grows c.requires.stands (c.own_terms.ensures c.args.work.now.bank c.args.history.now c.requires.ready);
 }

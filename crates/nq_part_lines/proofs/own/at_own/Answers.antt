@@ -1,0 +1,52 @@
+use Rattle.std.proofs.Common.{◌≤◌, ◌∷◌, [], sym, subst}
+use Rattle.std.specs.Prelude.{codes}
+use Rattle.nq_logic.specs.Terms.{Each, IsTerm}
+use Rattle.nq_logic.specs.Ground.{symbols_of}
+use Rattle.nq_logic.specs.Sizes.{depth_of}
+use Rattle.nq_bank.specs.Content.{term_at}
+use Rattle.nq_clause.specs.Substitution.{substitution_at}
+use Rattle.nq_proof.specs.Rules.{pair_terms}
+use Rattle.nq_rule.proofs.Made.{for_ok}
+use Rattle.nq_history.specs.Events.{events_at}
+use Rattle.nq_kernel.specs.Growing.{held}
+use Rattle.nq_lines.specs.Instances.{InstancesTo}
+use Rattle.nq_lines.proofs.LineLemmas.{line_grown}
+use Rattle.nq_lines.proofs.PairLemmas.{one_paired, one_in}
+use Rattle.nq_replay.proofs.UncountedLemmas.{grown_trans}
+use Rattle.nq_replay.proofs.HeldLemmas.{held_grown}
+use Rattle.nq_part_lines.specs.Known.{row_room}
+use Rattle.nq_part_lines.specs.LawLines.{term_room}
+use Rattle.nq_part_lines.proofs.GrownLemmas.{instances_since}
+use Rattle.nq_part_lines.proofs.OwnLemmas.{own_shallow}
+use Rattle.nq_part_lines.proofs.own.at_own.Goals as goal
+
+pub instance-requires-clause-line : goal.instance-requires-clause-line
+instance-requires-clause-line c = line_grown c.args.history.now c.args.work.now c.symbol.new.work c.args.line c.requires.stands c.symbol.ensures.grows.grows c.requires.line.stands
+
+pub instance-requires-clause-pairs : goal.instance-requires-clause-pairs
+instance-requires-clause-pairs c =
+    one_in c.args.history.now c.args.work.now c.symbol.new.work c.requires.stands c.symbol.ensures.grows.grows c.in_ok-pairs.pairs.items c.in_ok-variable.variable c.args.y c.in_ok-pairs.ensures.items c.in_ok-variable.ensures.name c.requires.term.inside
+
+pub instance-requires-clause-shallow : goal.instance-requires-clause-shallow
+instance-requires-clause-shallow c =
+    let old = c.args.work.now in
+    let new = c.symbol.new.work in
+    let symbols = symbols_of (events_at old.bank c.args.history.now) in
+    let paired = one_paired c.args.history.now old new c.requires.stands c.symbol.ensures.grows.grows c.in_ok-pairs.pairs.items c.in_ok-variable.variable c.args.y c.in_ok-pairs.ensures.items c.in_ok-variable.ensures.name c.requires.term.inside in
+    let same = held_grown c.args.history.now old new c.args.line c.requires.stands c.symbol.ensures.grows.grows c.requires.line.stands in
+    own_shallow symbols (substitution_at new.bank c.in_ok-pairs.pairs.items)
+    (subst (λ s. Each (λ t. depth_of t ≤ term_room) (pair_terms s)) (sym paired) (c.requires.term.room, tt))
+    (held new c.args.line) (subst (Each (IsTerm symbols)) (sym same) c.requires.line.over) (subst (Each (λ t. depth_of t ≤ row_room)) (sym same) c.requires.line.low)
+
+pub returns-clause-line : goal.returns-clause-line
+returns-clause-line c =
+    let old = c.args.work.now in
+    let mid = c.symbol.new.work in
+    let new = c.instance.new.work in
+    let s = (codes "X", term_at old.bank c.args.y) ∷ [] in
+    let paired = one_paired c.args.history.now old mid c.requires.stands c.symbol.ensures.grows.grows c.in_ok-pairs.pairs.items c.in_ok-variable.variable c.args.y c.in_ok-pairs.ensures.items c.in_ok-variable.ensures.name c.requires.term.inside in
+    for_ok c.instance.result (InstancesTo mid new (substitution_at mid.bank c.in_ok-pairs.pairs.items) c.args.line) (InstancesTo old new s c.args.line) (λ n h.
+    instances_since c.args.history.now old mid new s c.args.line n c.requires.stands c.symbol.ensures.grows.grows (subst (λ s. InstancesTo mid new s c.args.line n) paired h)) c.instance.ensures.line
+
+pub returns-clause-grows : goal.returns-clause-grows
+returns-clause-grows c = grown_trans c.args.history.now c.args.work.now c.symbol.new.work c.instance.new.work c.symbol.ensures.grows c.instance.ensures.grows

@@ -1,0 +1,13 @@
+pub mod LawLines
+pub mod Pairs
+pub mod Single
+pub mod Small
+pub mod Five
+pub mod Taken
+pub mod Pieces
+pub mod Known
+pub mod KnownLaws
+pub mod Objects
+pub mod Replacing
+pub mod Wholes
+pub mod Own

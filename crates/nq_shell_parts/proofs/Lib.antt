@@ -1,0 +1,2 @@
+mod SummandLemmas
+mod LongerLemmas

@@ -1,0 +1,2 @@
+pub mod LawClauses
+pub mod Summands
