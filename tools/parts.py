@@ -43,11 +43,27 @@ def longer():
     opened = L.inst(replays.found("(NOT (IMPLIES X Y)) | (NOT X) | Y", lemmas=[A("TRUE"), A("FALSE")], opens=["IMPLIES"]), {"X": less, "Y": longer})
     return L.cut(line, opened, claim), [named["size_falls"], transitive, one]
 
+def restrictions():
+    """choices, T and F, and terms in the place of equal ones"""
+    ends = [A("TRUE"), A("FALSE")]
+    yield "first_of_choice", replays.found("(NOT X) | (OR X Y)", lemmas=ends, opens=["OR"])
+    yield "second_of_choice", replays.found("(NOT Y) | (OR X Y)", lemmas=ends, opens=["OR"])
+    yield "neither_of_choice", replays.found("Y | X | (NOT (OR X Y))", lemmas=ends, opens=["OR"])
+    equal = [L.inst(named[k], s) for k, s in (("same_are_equal", {"X": TRUE}), ("same_are_equal", {"X": FALSE}), ("truth_differs_from_falsity", {}), ("falsity_differs_from_truth", {}))]
+    for name, test in ("truth_is_truth", "(TRUEP T)"), ("falsity_is_falsity", "(FALSEP F)"), ("falsity_is_no_truth", "(NOT (TRUEP F))"), ("truth_is_no_falsity", "(NOT (FALSEP T))"):
+        yield name, replays.found(test, lemmas=ends, rules=equal, opens=["TRUEP", "FALSEP"])
+    less = R("(LESSP (COUNT X) (COUNT Y))")
+    line = L.replace(L.taut(less, no(less)), 1, (2, 1), "B", "-")
+    yield "same_is_equal", L.refl("X")
+    yield "smaller_as_others_are", L.replace(line, 1, (1, 1), "A", "-")
+
 def denials():
     """denied equations"""
     yield "equation_by_turned", named["equation_by_turned"]
     equation = no(R("(EQUAL X Y)"))
     yield "equation_by_itself", L.taut(equation, no(equation))
+
+OWN = {"TRUEP", "FALSEP"}  # words that src/words.rt has, since nq_replay has not
 
 CLAUSES = """-- The clauses of the laws. They are printed.
 use Rattle.std.specs.Prelude.{List, [], ◌∷◌}
@@ -78,11 +94,11 @@ def main(crate):
         os.makedirs(os.path.dirname(path), exist_ok=True)
         open(path, "w").write(text)
     clauses, modules = CLAUSES, []
-    for topic, source in ("summands", laws), ("constants", denials):
+    for topic, source in ("summands", laws), ("constants", denials), ("restrictions", restrictions):
         functions, uses, names = "", "", []
         for name, line in source():
             c = L.c(line)
-            put("src/tables/%s.rt" % name, table(name, line, [], "nq_replay"))
+            put("src/tables/%s.rt" % name, table(name, line, [], "nq_replay", OWN))
             modules.append(name)
             names.append(name + "_clause")
             uses += "use crate::tables::%s::%s;\n" % (name, name.upper())

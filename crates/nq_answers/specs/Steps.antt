@@ -8,7 +8,7 @@ use Rattle.nq_logic.specs.Derivations.{Derivable}
 use Rattle.nq_logic.specs.Names.{before_event}
 use Rattle.nq_language.specs.Printing.{printed}
 use Rattle.nq_form.specs.Form.{Form, Forms, end, dotted, next}
-use Rattle.nq_covered.specs.Definitions.{IsCoveredDefinition}
+use Rattle.nq_arith.specs.Structural.{IsStructural}
 use Rattle.nq_events.specs.Events.{Event, Hints, Measure, BootStrap, AddShell, Dcl, Defn, AddAxiom, ProveLemma, Toggle, Undo, Skipped as PassedOver}
 use Rattle.nq_events.specs.Refusals.{Refusal, code_of, words_of}
 use Rattle.nq_events.specs.Reading.{event_refusal, event_of}
@@ -62,10 +62,10 @@ pub record IsAcceptedBy (h : History) (name : Name) (formals : List Name) (body 
   pub admissible : IsAdmissible h (measured_definition name formals body measure)
   pub answer_is : answer ≡ AcceptedBy place (printed measure)
 
--- The definition is not structural by covered shells of the history: one that is so is accepted, whatever the step limit. Of each
--- measure that is tried an obligation is told that is left.
+-- The definition is not structural in the history: one that is so is accepted, whatever the step limit. Of each measure that is
+-- tried an obligation is told that is left.
 pub record IsUnmeasured (h : History) (name : Name) (formals : List Name) (body : Term) (measures : List Measure) (answer : Answer) : Type 0 where
-  pub plain : IsCoveredDefinition h (plain_definition name formals body) → ⊥
+  pub plain : IsStructural h (plain_definition name formals body) → ⊥
   pub trials : List Trial
   pub told : AreTrials h (plain_definition name formals body) (tried_measures formals measures) trials
   pub answer_is : answer ≡ Unmeasured trials

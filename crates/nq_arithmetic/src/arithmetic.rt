@@ -12,6 +12,7 @@ use crate::assumptions::{Assumption, literals_with};
 use crate::bounding::instances_of;
 use crate::checking::checked;
 use crate::guards::{are_met, fact_line};
+use crate::keeping::{Question, is_kept, keep, key_of_lemmas, key_of_told};
 use crate::reading::{Operands, is_call_of, operands_of};
 use crate::refuting::refuted;
 use crate::resolving::resolved;
@@ -198,9 +199,60 @@ fn by_lemmas(
     by_facts(work, history, goal, all.as_slice())
 }
 
+/// The line of a goal as it is, or else with the facts that are found for it and with what is told.
+fn by_told(
+    work: &mut Work,
+    history: &History,
+    goal: &[TermId],
+    told: &[Fact],
+) -> Result<Option<u64>, Stop>
+    requires stands { WorkStands history.now work.old }
+    requires goal { All (IsTermIn history.now work.old) goal.now }
+    requires told { All (IsLine history.now work.old) told.now }
+    ensures line { IfOk result (λ found. IfSome found (λ n. LineHasOnly work.new n (terms_at work.old.bank goal.now))) }
+    ensures grows { WorkGrows history.now work.old work.new }
+    ensures out { result ≡ Err Stop.OutOfSteps → work.new.counter.used ≡ work.new.counter.limit }
+{
+    match refuted(work, history, goal)? {
+        Some(line) => Ok(checked(work, history, goal, line)),
+        None => by_facts(work, history, goal, told),
+    }
+}
+
+/// The same, with facts by lemmas too.
+fn by_told_and_lemmas(
+    work: &mut Work,
+    history: &History,
+    hints: &Hints,
+    goal: &[TermId],
+    told: &[Fact],
+) -> Result<Option<u64>, Stop>
+    requires stands { WorkStands history.now work.old }
+    requires ready { HasOwnTerms (events_at work.old.bank history.now) }
+    requires goal { All (IsTermIn history.now work.old) goal.now }
+    requires told { All (IsLine history.now work.old) told.now }
+    ensures line { IfOk result (λ found. IfSome found (λ n. LineHasOnly work.new n (terms_at work.old.bank goal.now))) }
+    ensures grows { WorkGrows history.now work.old work.new }
+    ensures out { result ≡ Err Stop.OutOfSteps → work.new.counter.used ≡ work.new.counter.limit }
+{
+    match refuted(work, history, goal)? {
+        Some(line) => Ok(checked(work, history, goal, line)),
+        None => by_lemmas(work, history, hints, goal, told),
+    }
+}
+
+/// Keeps a question where no line was found.
+fn keep_if_none(work: &mut Work, question: Question, number: u64, found: Option<u64>)
+    ensures { work.new ≡ work.old }
+{
+    if found.is_none() {
+        keep(work, question, number);
+    }
+}
+
 /// A line that has only literals of a goal, by linear arithmetic: of its literals as they are, together with facts about the
 /// terms in it by laws and with what is told of them, and for an equation of two numbers by comparing them. None is found under
-/// NO-BUILT-IN-ARITH.
+/// NO-BUILT-IN-ARITH, nor where none was found before.
 pub fn arithmetic_line(
     work: &mut Work,
     history: &History,
@@ -215,13 +267,13 @@ pub fn arithmetic_line(
     ensures grows { WorkGrows history.now work.old work.new }
     ensures out { result ≡ Err Stop.OutOfSteps → work.new.counter.used ≡ work.new.counter.limit }
 {
-    if hints.no_arith {
+    let number = key_of_told(goal, told);
+    if hints.no_arith || is_kept(work, Question::Told, number) {
         return Ok(None);
     }
-    match refuted(work, history, goal)? {
-        Some(line) => Ok(checked(work, history, goal, line)),
-        None => by_facts(work, history, goal, told),
-    }
+    let found = by_told(work, history, goal, told)?;
+    keep_if_none(work, Question::Told, number, found);
+    Ok(found)
 }
 
 /// The same, with facts by enabled lemmas of the history too.
@@ -240,11 +292,11 @@ pub fn arithmetic_line_by_lemmas(
     ensures grows { WorkGrows history.now work.old work.new }
     ensures out { result ≡ Err Stop.OutOfSteps → work.new.counter.used ≡ work.new.counter.limit }
 {
-    if hints.no_arith {
+    let number = key_of_lemmas(history, hints, goal, told);
+    if hints.no_arith || is_kept(work, Question::ToldAndLemmas, number) {
         return Ok(None);
     }
-    match refuted(work, history, goal)? {
-        Some(line) => Ok(checked(work, history, goal, line)),
-        None => by_lemmas(work, history, hints, goal, told),
-    }
+    let found = by_told_and_lemmas(work, history, hints, goal, told)?;
+    keep_if_none(work, Question::ToldAndLemmas, number, found);
+    Ok(found)
 }

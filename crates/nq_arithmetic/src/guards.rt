@@ -5,6 +5,7 @@ ghost use Rattle.nq_lines.specs.Lines.{IsTermIn};
 ghost use Rattle.nq_arithmetic.specs.Claims.{AreOperandsIn, IsClaimIn};
 
 use crate::claims::{Claim, claim_at, join, literal_of, opposite_of};
+use crate::keeping::{Question, is_kept, keep, key_of_claim};
 use crate::lines::law_at;
 use crate::numbers::{number_law, number_line};
 use crate::reading::{Operands, has_id, operands_of};
@@ -37,17 +38,61 @@ fn is_sum(work: &Work, history: &History, literals: &[TermId], claim: Claim) -> 
     are_refuted(work, history, all.as_slice())
 }
 
+/// The same, and what was found is kept.
+fn is_new_sum(
+    work: &mut Work,
+    history: &History,
+    literals: &[TermId],
+    claim: Claim,
+    number: u64,
+) -> Result<bool, Stop>
+    requires stands { WorkStands history.now work.old }
+    requires literals { All (IsTermIn history.now work.old) literals.now }
+    requires claim { IsClaimIn history.now work.old claim }
+    ensures same { work.new ≡ work.old }
+    ensures memory { result ≡ Err Stop.OutOfSteps → ⊥ }
+{
+    let met = is_sum(work, history, literals, claim)?;
+    let question = if met { Question::Met } else { Question::Unmet };
+    keep(work, question, number);
+    Ok(met)
+}
+
+/// The same, as it was found before, where that was kept.
+fn is_sum_kept(
+    work: &mut Work,
+    history: &History,
+    literals: &[TermId],
+    claim: Claim,
+) -> Result<bool, Stop>
+    requires stands { WorkStands history.now work.old }
+    requires literals { All (IsTermIn history.now work.old) literals.now }
+    requires claim { IsClaimIn history.now work.old claim }
+    ensures same { work.new ≡ work.old }
+    ensures memory { result ≡ Err Stop.OutOfSteps → ⊥ }
+{
+    let number = key_of_claim(literals, claim);
+    if is_kept(work, Question::Unmet, number) {
+        return Ok(false);
+    }
+    if is_kept(work, Question::Met, number) {
+        return Ok(true);
+    }
+    is_new_sum(work, history, literals, claim, number)
+}
+
 /// Is a literal among these, or met in this way? No line is added.
 pub fn is_claim_met(
-    work: &Work,
+    work: &mut Work,
     history: &History,
     literals: &[TermId],
     way: Way,
     claim: Claim,
 ) -> Result<bool, Stop>
-    requires stands { WorkStands history.now work.now }
-    requires literals { All (IsTermIn history.now work.now) literals.now }
-    requires claim { IsClaimIn history.now work.now claim }
+    requires stands { WorkStands history.now work.old }
+    requires literals { All (IsTermIn history.now work.old) literals.now }
+    requires claim { IsClaimIn history.now work.old claim }
+    ensures same { work.new ≡ work.old }
     ensures memory { result ≡ Err Stop.OutOfSteps → ⊥ }
 {
     if has_id(literals, literal_of(work, history, claim)) {
@@ -56,7 +101,7 @@ pub fn is_claim_met(
     match way {
         Way::Goal => Ok(false),
         Way::Number => Ok(is_number(work, history, claim.test)),
-        Way::Sum => is_sum(work, history, literals, claim),
+        Way::Sum => is_sum_kept(work, history, literals, claim),
     }
 }
 

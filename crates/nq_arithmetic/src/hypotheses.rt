@@ -70,7 +70,8 @@ fn is_part_met(
     }
     let shown = claim_of(work, history, part)?;
     let claim = turned(work, history, shown);
-    is_claim_met(work, history, literals, way_of(&work.bank, claim), claim)
+    let way = way_of(&work.bank, claim);
+    is_claim_met(work, history, literals, way, claim)
 }
 
 /// The same, where those before it are.

@@ -22,6 +22,9 @@ mod claims;
 mod lines;
 mod refuting;
 
+// questions that were asked before
+mod keeping;
+
 // what a fact rests on
 mod guards;
 mod hypotheses;

@@ -1,4 +1,4 @@
--- Covered nests under fewer tests, and under more.
+-- Structural nests under fewer tests, and under more.
 use Rattle.std.proofs.Common.{◌≡◌, Bool, true, false, ℕ, zero, suc, List, [], ◌∷◌, ◌++◌, ◌||◌, ◌⊎◌, if◌then◌else◌, inl, inr, refl, sym, ap, subst}
 use Rattle.std.specs.Prelude.{bytes_eq, not}
 use Rattle.std.proofs.lemmas.Slice.Eq.{bytes_eq-Decides}
@@ -15,7 +15,6 @@ use Rattle.nq_proof.specs.Closed.{MeetsShellPrinciple}
 use Rattle.nq_proof.proofs.Tests.{names_same}
 use Rattle.nq_proof.proofs.ShellSymbols.{ShellOver, symbols_join}
 use Rattle.nq_proof.proofs.AcceptedShells.{accepted_over}
-use Rattle.nq_arith.specs.Structural.{IsStructuralNest}
 use Rattle.nq_arith.specs.Nests.{IsShellOf, nest, IsGuarded, recognized, no_atom, no_base, no_base_turned, no_zero, AreGuarded}
 use Rattle.nq_lines.specs.Lines.{AreAmong}
 use Rattle.nq_decrease.specs.Laws.{without_function, StructuralWithout, StructuralWith}
@@ -108,9 +107,8 @@ module _ (h : History) (f : Name) (new : is_in_use f h ≡ false) where
 
 pub filtered_law : StructuralWithout
 filtered_law h f x tests t accepted new n =
-    let s : IsStructuralNest h (Variable x) tests t = n.nest in
-    let kept : AreGuarded (without_function f tests) s.shell (Variable x) (s.first ∷ s.rest) = guards_kept h f new accepted s.shell s.here tests (Variable x) (s.first ∷ s.rest) tt s.parts s.guarded in
-    record { nest = record { shell = s.shell; here = s.here; first = s.first; rest = s.rest; parts = s.parts; is = s.is; guarded = kept }; covered = n.covered }
+    let kept : AreGuarded (without_function f tests) n.shell (Variable x) (n.first ∷ n.rest) = guards_kept h f new accepted n.shell n.here tests (Variable x) (n.first ∷ n.rest) tt n.parts n.guarded in
+    record { shell = n.shell; here = n.here; first = n.first; rest = n.rest; parts = n.parts; is = n.is; guarded = kept }
 
 -- tests among more
 guard_more : (tests more : List Term) (s : Shell) (y : Term) → AreAmong tests more → IsGuarded tests s y → IsGuarded more s y
@@ -135,6 +133,5 @@ filter_among f (u ∷ tests) t m = by_test (mentions f u) (λ i. filter_among f 
 
 pub unfiltered_law : StructuralWith
 unfiltered_law h f x tests t n =
-    let s : IsStructuralNest h (Variable x) (without_function f tests) t = n.nest in
-    let more : AreGuarded tests s.shell (Variable x) (s.first ∷ s.rest) = guards_more (without_function f tests) tests s.shell (Variable x) (s.first ∷ s.rest) (filter_among f tests) s.guarded in
-    record { nest = record { shell = s.shell; here = s.here; first = s.first; rest = s.rest; parts = s.parts; is = s.is; guarded = more }; covered = n.covered }
+    let more : AreGuarded tests n.shell (Variable x) (n.first ∷ n.rest) = guards_more (without_function f tests) tests n.shell (Variable x) (n.first ∷ n.rest) (filter_among f tests) n.guarded in
+    record { shell = n.shell; here = n.here; first = n.first; rest = n.rest; parts = n.parts; is = n.is; guarded = more }

@@ -7,7 +7,7 @@ use Rattle.nq_logic.specs.Words.{not_term}
 use Rattle.nq_logic.specs.Ground.{symbols_of, ground_shells, numbers, pairs}
 use Rattle.nq_logic.specs.Histories.{History, Shell, events_shells}
 use Rattle.nq_logic.specs.Names.{is_in_use}
-use Rattle.nq_logic.specs.ShellPrinciple.{shell_names, shells_of}
+use Rattle.nq_logic.specs.ShellPrinciple.{shell_names}
 use Rattle.nq_logic.proofs.Lists.{among_left, among_right, each_at}
 use Rattle.nq_bank.specs.declared.shell.Shell.{Shell as BankShell}
 use Rattle.nq_bank.specs.Content.{Content, Grows}
@@ -21,7 +21,6 @@ use Rattle.nq_kernel.specs.Ready.{IsReady}
 use Rattle.nq_kernel.specs.declared.work.Work.{Work}
 use Rattle.nq_arith.specs.Nests.{IsShellOf}
 use Rattle.nq_arith.specs.Structural.{IsStructuralNest}
-use Rattle.nq_covered.specs.Covered.{IsCoveredNest, is_covered}
 use Rattle.nq_part_lines.specs.KnownLaws.{UserNamesAreNew}
 use Rattle.nq_part_lines.proofs.KnownLemmas.{base_named, recognizer_named, shells_accepted}
 use Rattle.nq_decrease.specs.OwnGuards.{IsOtherBase, IsUserShell}
@@ -80,36 +79,35 @@ module _ (h : History) (work : Work) (tests : List Term) (x t : Term) where
       let is = l.line.is in
       record { structural = record { shell = l.shell; here = l.here; first = is.first; rest = is.rest; parts = is.parts; is = is.is; guarded = is.guarded }; line = lowers (map not_term tests) l.line.line }
 
-  -- where neither a ground shell nor a user's has such a nest, there is no covered one
-  pub none_covered : (IsStructuralNest [] x tests t → ⊥) → Each (λ s. is_covered (shells_of h) s ≡ true → IsNestOf s tests x t → ⊥) (events_shells h) → IsCoveredNest h x tests t → ⊥
-  none_covered ground own c =
-      let n = c.nest in
+  -- where neither a ground shell nor a user's has such a nest, there is no structural one
+  pub none_structural : (IsStructuralNest [] x tests t → ⊥) → Each (λ s. IsNestOf s tests x t → ⊥) (events_shells h) → IsStructuralNest h x tests t → ⊥
+  none_structural ground own n =
       let nested : IsNestOf n.shell tests x t = record { first = n.first; rest = n.rest; parts = n.parts; is = n.is; guarded = n.guarded } in
       elim (shell_either n.shell ground_shells (events_shells h) n.here) [
         | inl m ↦ ground (record { shell = n.shell; here = m; first = n.first; rest = n.rest; parts = n.parts; is = n.is; guarded = n.guarded })
-        | inr m ↦ each_at (λ s. is_covered (shells_of h) s ≡ true → IsNestOf s tests x t → ⊥) n.shell (events_shells h) own m c.covered nested
+        | inr m ↦ each_at (λ s. IsNestOf s tests x t → ⊥) n.shell (events_shells h) own m nested
       ]
 
 module _ (h : History) (new : Work) (tests : List Term) (x t : Term) where
-  -- a line of a nest, or that none of these shells that is covered has one
+  -- a line of a nest, or that none of these shells has one
   abbrev pub OwnFound : List Shell → Option ℕ → Type 0
-  OwnFound shells r = MatchOption r (Each (λ s. is_covered (shells_of h) s ≡ true → IsNestOf s tests x t → ⊥) shells) (IsShellNestLine h new tests x t)
+  OwnFound shells r = MatchOption r (Each (λ s. IsNestOf s tests x t → ⊥) shells) (IsShellNestLine h new tests x t)
 
-  pub own_more : (s : Shell) (shells : List Shell) (r : Option ℕ) → (is_covered (shells_of h) s ≡ true → IsNestOf s tests x t → ⊥) → OwnFound shells r → OwnFound (s ∷ shells) r
+  pub own_more : (s : Shell) (shells : List Shell) (r : Option ℕ) → (IsNestOf s tests x t → ⊥) → OwnFound shells r → OwnFound (s ∷ shells) r
   own_more s shells None none f = (none, f)
   own_more s shells (Some n) none f = f
 
-  -- a line of a nest, or that there is no covered one
+  -- a line of a nest, or that there is no structural one
   abbrev pub NestFound : Option ℕ → Type 0
-  NestFound r = MatchOption r (IsCoveredNest h x tests t → ⊥) (IsShellNestLine h new tests x t)
+  NestFound r = MatchOption r (IsStructuralNest h x tests t → ⊥) (IsShellNestLine h new tests x t)
 
   pub nest_found : (r : Option ℕ) → (IsStructuralNest [] x tests t → ⊥) → OwnFound (events_shells h) r → NestFound r
-  nest_found None ground own = none_covered h new tests x t ground own
+  nest_found None ground own = none_structural h new tests x t ground own
   nest_found (Some n) ground own = own
 
-  -- a line of a nest that is below, or that there is no covered nest
+  -- a line of a nest that is below, or that there is no structural one
   abbrev pub IsFound : Option ℕ → Type 0
-  IsFound r = MatchOption r (IsCoveredNest h x tests t → ⊥) (IsDecreaseLine h new tests x t)
+  IsFound r = MatchOption r (IsStructuralNest h x tests t → ⊥) (IsDecreaseLine h new tests x t)
 
 -- what is told in the terms of one bank is told in those of another
 pub own_moved : (new : Work) (h k : History) (shells shells' : List Shell) (tests tests' : List Term) (x x' t t' : Term) (r : Option ℕ) → k ≡ h → shells' ≡ shells → tests' ≡ tests → x' ≡ x → t' ≡ t → OwnFound k new tests' x' t' shells' r → OwnFound h new tests x t shells r

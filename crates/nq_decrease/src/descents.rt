@@ -8,7 +8,6 @@ ghost use Rattle.nq_bank.specs.Content.{Stands, IsNamed, text_at, term_at, terms
 ghost use Rattle.nq_bank.specs.Shells.{ShellStands, shells_at};
 ghost use Rattle.nq_arith.specs.Structural.{IsStructuralNest};
 ghost use Rattle.nq_kernel.specs.Growing.{WorkStands};
-ghost use Rattle.nq_covered.specs.Covered.{IsCoveredNest};
 ghost use Rattle.nq_history.specs.Events.{HistoryStands, events_at};
 ghost use Rattle.nq_kernel.specs.Over.{IsVariable};
 ghost use Rattle.nq_kernel.specs.Ready.{IsReady};
@@ -118,7 +117,7 @@ fn users_shells<'a>(bank: &Bank, history: &'a History) -> &'a [Shell]
     &shells[GROUND_SHELLS..]
 }
 
-/// The line that a nest of a covered shell's accessors around a term is smaller than the term.
+/// The line that a nest of the accessors of a shell of the history around a term is smaller than the term.
 fn nest_line(
     work: &mut Work,
     history: &History,
@@ -133,7 +132,7 @@ fn nest_line(
     requires tests { All (Stands work.old.bank) tests.now }
     requires room { depth_of (term_at work.old.bank whole) ≤ term_room }
     requires shallow { depth_of (term_at work.old.bank nest) ≤ term_room }
-    ensures answer { IfOk result (λ found. MatchOption found (IsCoveredNest (events_at work.old.bank history.now) (term_at work.old.bank whole) (terms_at work.old.bank tests.now) (term_at work.old.bank nest) → ⊥) (IsShellNestLine (events_at work.old.bank history.now) work.new (terms_at work.old.bank tests.now) (term_at work.old.bank whole) (term_at work.old.bank nest))) }
+    ensures answer { IfOk result (λ found. MatchOption found (IsStructuralNest (events_at work.old.bank history.now) (term_at work.old.bank whole) (terms_at work.old.bank tests.now) (term_at work.old.bank nest) → ⊥) (IsShellNestLine (events_at work.old.bank history.now) work.new (terms_at work.old.bank tests.now) (term_at work.old.bank whole) (term_at work.old.bank nest))) }
     ensures grows { GrowsUncounted history.now work.old work.new }
 {
     match ground_nest(work, history, whole, nest, tests)? {
@@ -160,7 +159,7 @@ fn decrease_of(
     requires tests { All (Stands work.old.bank) tests.now }
     requires room { depth_of (term_at work.old.bank whole) ≤ term_room }
     requires shallow { depth_of (term_at work.old.bank nest) ≤ term_room }
-    ensures answer { IfOk result (λ found. MatchOption found (IsCoveredNest (events_at work.old.bank history.now) (term_at work.old.bank whole) (terms_at work.old.bank tests.now) (term_at work.old.bank nest) → ⊥) (IsDecreaseLine (events_at work.old.bank history.now) work.new (terms_at work.old.bank tests.now) (term_at work.old.bank whole) (term_at work.old.bank nest))) }
+    ensures answer { IfOk result (λ found. MatchOption found (IsStructuralNest (events_at work.old.bank history.now) (term_at work.old.bank whole) (terms_at work.old.bank tests.now) (term_at work.old.bank nest) → ⊥) (IsDecreaseLine (events_at work.old.bank history.now) work.new (terms_at work.old.bank tests.now) (term_at work.old.bank whole) (term_at work.old.bank nest))) }
     ensures grows { GrowsUncounted history.now work.old work.new }
 {
     match nest_line(work, history, whole, nest, tests)? {
@@ -173,7 +172,7 @@ fn decrease_of(
 }
 
 /// The line that a nest of a shell's accessors around a variable is below the variable, where the nest is structural under the
-/// tests and the shell is covered. No step is counted.
+/// tests. No step is counted.
 pub fn decrease(
     work: &mut Work,
     history: &History,
@@ -188,7 +187,7 @@ pub fn decrease(
     requires nest { Stands work.old.bank nest }
     requires tests { All (Stands work.old.bank) tests.now }
     requires shallow { depth_of (term_at work.old.bank nest) ≤ term_room }
-    ensures answer { IfOk result (λ found. MatchOption found (IsCoveredNest (events_at work.old.bank history.now) (Variable (text_at work.old.bank x)) (terms_at work.old.bank tests.now) (term_at work.old.bank nest) → ⊥) (IsDecreaseLine (events_at work.old.bank history.now) work.new (terms_at work.old.bank tests.now) (Variable (text_at work.old.bank x)) (term_at work.old.bank nest))) }
+    ensures answer { IfOk result (λ found. MatchOption found (IsStructuralNest (events_at work.old.bank history.now) (Variable (text_at work.old.bank x)) (terms_at work.old.bank tests.now) (term_at work.old.bank nest) → ⊥) (IsDecreaseLine (events_at work.old.bank history.now) work.new (terms_at work.old.bank tests.now) (Variable (text_at work.old.bank x)) (term_at work.old.bank nest))) }
     ensures grows { GrowsUncounted history.now work.old work.new }
 {
     let whole = variable(work, history, x)?;

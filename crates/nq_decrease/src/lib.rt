@@ -1,4 +1,4 @@
-//! Parts of values are smaller than the values: lines of this for the ground shells and for covered shells of users, without counting a step.
+//! Parts of values are smaller than the values: lines of this for the ground shells and for shells of users, without counting a step.
 #![tactic(auto)]
 
 // parts, and the tests under which they are smaller

@@ -1,12 +1,10 @@
 //! Nests of a user's shell's accessors around a term, and the lines that say that they are smaller.
-ghost use Rattle.std.specs.Prelude.{◌≡◌, ◌≤◌, ◌<◌, All, IfOk, MatchOption, length, true};
+ghost use Rattle.std.specs.Prelude.{◌≤◌, ◌<◌, All, IfOk, MatchOption, length};
 ghost use Rattle.nq_logic.specs.Histories.{events_shells};
-ghost use Rattle.nq_logic.specs.ShellPrinciple.{shells_of};
 ghost use Rattle.nq_logic.specs.Terms.{Each, IsAmong};
 ghost use Rattle.nq_logic.specs.Sizes.{depth_of};
 ghost use Rattle.nq_bank.specs.Content.{Stands, term_at, terms_at};
 ghost use Rattle.nq_bank.specs.Shells.{ShellStands, shell_at, shells_at};
-ghost use Rattle.nq_covered.specs.Covered.{is_covered};
 ghost use Rattle.nq_history.specs.Events.{events_at};
 ghost use Rattle.nq_kernel.specs.Growing.{WorkStands, LineStands};
 ghost use Rattle.nq_kernel.specs.Ready.{IsReady};
@@ -23,7 +21,6 @@ use crate::joining::joined_sizes;
 use crate::own_level::OwnLevel;
 use crate::own_levels::{own_level_line, own_level_of};
 use nq_bank::{Shell, TermId};
-use nq_covered::is_covered;
 use nq_history::History;
 use nq_kernel::Work;
 use nq_part_lines::known_shells;
@@ -105,8 +102,8 @@ fn own_descend(
     }
 }
 
-/// The same of a user's shell, where it is covered.
-fn nest_if_covered(
+/// The same of a user's shell of a ready history.
+fn nest_of_one(
     work: &mut Work,
     history: &History,
     shell: &Shell,
@@ -124,19 +121,16 @@ fn nest_if_covered(
     requires room { depth_of (term_at work.old.bank whole) ≤ term_room }
     requires shallow { depth_of (term_at work.old.bank t) ≤ term_room }
     ensures answer { IfOk result (λ found. MatchOption found
-        (is_covered (shells_of (events_at work.old.bank history.now)) (shell_at work.old.bank shell.now) ≡ true → IsNestOf (shell_at work.old.bank shell.now) (terms_at work.old.bank tests.now) (term_at work.old.bank whole) (term_at work.old.bank t) → ⊥)
+        (IsNestOf (shell_at work.old.bank shell.now) (terms_at work.old.bank tests.now) (term_at work.old.bank whole) (term_at work.old.bank t) → ⊥)
         (IsShellNestLine (events_at work.old.bank history.now) work.new (terms_at work.old.bank tests.now) (term_at work.old.bank whole) (term_at work.old.bank t))) }
     ensures grows { GrowsUncounted history.now work.old work.new }
 {
-    if !is_covered(&work.bank, history.shells(), shell) {
-        return Ok(None);
-    }
     own_terms();
     known_shells();
     own_descend(work, history, shell, whole, t, tests)
 }
 
-/// The same of the first of these users' shells that is covered and has such a line.
+/// The same of the first of these users' shells that has such a line.
 pub fn nest_of_own(
     work: &mut Work,
     history: &History,
@@ -155,13 +149,13 @@ pub fn nest_of_own(
     requires room { depth_of (term_at work.old.bank whole) ≤ term_room }
     requires shallow { depth_of (term_at work.old.bank t) ≤ term_room }
     ensures answer { IfOk result (λ found. MatchOption found
-        (Each (λ s. is_covered (shells_of (events_at work.old.bank history.now)) s ≡ true → IsNestOf s (terms_at work.old.bank tests.now) (term_at work.old.bank whole) (term_at work.old.bank t) → ⊥) (shells_at work.old.bank shells.now))
+        (Each (λ s. IsNestOf s (terms_at work.old.bank tests.now) (term_at work.old.bank whole) (term_at work.old.bank t) → ⊥) (shells_at work.old.bank shells.now))
         (IsShellNestLine (events_at work.old.bank history.now) work.new (terms_at work.old.bank tests.now) (term_at work.old.bank whole) (term_at work.old.bank t))) }
     ensures grows { GrowsUncounted history.now work.old work.new }
 {
     match shells {
         [] => Ok(None),
-        [first, rest @ ..] => match nest_if_covered(work, history, first, whole, t, tests)? {
+        [first, rest @ ..] => match nest_of_one(work, history, first, whole, t, tests)? {
             None => nest_of_own(work, history, rest, whole, t, tests),
             Some(line) => Ok(Some(line)),
         },

@@ -32,10 +32,10 @@ use nq_waterfall::laws::holding;
 use std::alloc::{AllocError, Global};
 
 /// The most steps that a trace takes. Of one that takes more, one induction is told.
-const TRACE_STEPS: u64 = 200_000;
+const TRACE_STEPS: u64 = 40_000;
 
 /// How many steps are used when a trace goes on to no further goals.
-const TRACED_STEPS: u64 = 20_000;
+const TRACED_STEPS: u64 = 10_000;
 
 /// How many steps are used when a trace goes on to no further goals below its inductions.
 const INDUCTED_STEPS: u64 = 6_000;

@@ -22,4 +22,5 @@ mod closing;
 pub use claims::{claim_of, gather, known_truth};
 pub use closing::close_induction;
 pub use goals::goals_of;
+pub use instances::instance_of;
 pub use scheme::{Case, Scheme};

@@ -1,10 +1,11 @@
 -- What every prover may assume of a history, and of the lines that stand in its log.
-use Rattle.std.specs.Prelude.{◌≡◌, ◌≤◌, ◌++◌, ℕ, ⊤, true, false, List, [], ◌∷◌, Some}
+use Rattle.std.specs.Prelude.{◌≡◌, ◌≤◌, ◌++◌, ℕ, ⊤, true, false, List, [], ◌∷◌, Some, length}
 use Rattle.nq_logic.specs.Terms.{Name, Each}
 use Rattle.nq_logic.specs.Sizes.{depth_of}
 use Rattle.nq_logic.specs.Ground.{symbols_of}
 use Rattle.nq_logic.specs.Names.{event_name, is_in_use, looked_up, are_distinct}
-use Rattle.nq_logic.specs.Histories.{History, Definition, Event, AddShell, Declaration, Defines, Axiom, Lemma, Toggle}
+use Rattle.nq_logic.specs.Histories.{History, Definition, Shell, Event, AddShell, Declaration, Defines, Axiom, Lemma, Toggle}
+use Rattle.nq_logic.specs.ShellPrinciple.{listed}
 use Rattle.nq_log.specs.Laws.{EventHolds}
 use Rattle.nq_proof.specs.Laws.{LinesHold}
 use Rattle.nq_history.specs.declared.entry.Entry.{Entry}
@@ -17,10 +18,23 @@ use Rattle.nq_kernel.specs.Over.{IsVariable, IsTermOf}
 abbrev pub body_depth : ℕ
 body_depth = 2000
 
+-- the most parts of a shell
+abbrev pub part_limit : ℕ
+part_limit = 20
+
+-- the most recognizers that a restriction names
+abbrev pub recognizer_limit : ℕ
+recognizer_limit = 100
+
+-- the shell is within the limits of event forms
+pub record IsLimitedShell (s : Shell) : Type 0 where
+  pub few_parts : length s.parts ≤ part_limit
+  pub few_recognizers : Each (λ part. length (listed part.restriction) ≤ recognizer_limit) s.parts
+
 -- The term of an axiom or a lemma is over the history's functions, with variables that a log can spell. So are the formals of a
--- definition, whose body is not too deep.
+-- definition, whose body is not too deep. A shell is within the limits of event forms.
 abbrev pub IsSpelledEvent : History → Event → Type 0
-IsSpelledEvent h (AddShell s) = ⊤
+IsSpelledEvent h (AddShell s) = IsLimitedShell s
 IsSpelledEvent h (Declaration f n) = ⊤
 IsSpelledEvent h (Defines d) = Each IsVariable d.formals × (depth_of d.body ≤ body_depth)
 IsSpelledEvent h (Axiom n classes t) = IsTermOf IsVariable (symbols_of h) t

@@ -19,7 +19,7 @@ use Rattle.nq_bank.proofs.Standing.{stand_grown, All-push}
 use Rattle.nq_bank.proofs.NodesLemmas.{All-head, All-tail}
 use Rattle.nq_bank.proofs.Numerals.{depth_of-other, number_of-call}
 use Rattle.nq_arith.specs.Nests.{is_below}
-use Rattle.nq_covered.specs.Covered.{IsCoveredNest}
+use Rattle.nq_arith.specs.Structural.{IsStructuralNest}
 use Rattle.nq_decrease.specs.Nests.{IsDecreaseLine}
 use Rattle.nq_history.specs.declared.entry.Entry.{Entry}
 use Rattle.nq_history.specs.Events.{events_at}
@@ -73,11 +73,11 @@ last_among : (t : Term) (c : List Term) → AreAmong (t ∷ c) (c ++ t ∷ [])
 last_among t c u (inl e) = among_right u c (t ∷ []) (inl e)
 last_among t c u (inr m) = among_left u c (t ∷ []) m
 
-pub part_found : (new : Work) (h k : History) (x y : Name) (ts us : List Term) (p q : Term) (found : Option ℕ) → k ≡ h → y ≡ x → us ≡ ts → q ≡ p → MatchOption found (IsCoveredNest k (Variable y) us q → ⊥) (IsDecreaseLine k new us (Variable y) q) →
-    MatchOption found (IsCoveredNest h (Variable x) ts p → ⊥) (λ n. LineHasOnly new n (fall_clause (call1 "COUNT" p) (size_of_variable x) ts))
+pub part_found : (new : Work) (h k : History) (x y : Name) (ts us : List Term) (p q : Term) (found : Option ℕ) → k ≡ h → y ≡ x → us ≡ ts → q ≡ p → MatchOption found (IsStructuralNest k (Variable y) us q → ⊥) (IsDecreaseLine k new us (Variable y) q) →
+    MatchOption found (IsStructuralNest h (Variable x) ts p → ⊥) (λ n. LineHasOnly new n (fall_clause (call1 "COUNT" p) (size_of_variable x) ts))
 part_found new h k x y ts us p q None a b c d w =
-    subst (λ (e : History). IsCoveredNest e (Variable x) ts p → ⊥) a
-    (subst (λ (z : Name). IsCoveredNest k (Variable z) ts p → ⊥) b (subst (λ (vs : List Term). IsCoveredNest k (Variable y) vs p → ⊥) c (subst (λ (t : Term). IsCoveredNest k (Variable y) us t → ⊥) d w)))
+    subst (λ (e : History). IsStructuralNest e (Variable x) ts p → ⊥) a
+    (subst (λ (z : Name). IsStructuralNest k (Variable z) ts p → ⊥) b (subst (λ (vs : List Term). IsStructuralNest k (Variable y) vs p → ⊥) c (subst (λ (t : Term). IsStructuralNest k (Variable y) us t → ⊥) d w)))
 part_found new h k x y ts us p q (Some n) a b c d w =
     only_more new n (is_below p (Variable x) ∷ map not_term ts) (fall_clause (call1 "COUNT" p) (size_of_variable x) ts) (last_among (is_below p (Variable x)) (map not_term ts))
     (subst (λ (z : Name). LineHasOnly new n (is_below p (Variable z) ∷ map not_term ts)) b (subst (λ (vs : List Term). LineHasOnly new n (is_below p (Variable y) ∷ map not_term vs)) c (subst (λ (t : Term). LineHasOnly new n (is_below t (Variable y) ∷ map not_term us)) d w.line)))
@@ -109,10 +109,10 @@ module _ (history : List Entry) (bank : Content) (f : Sym) (formals : List Sym) 
 
 pub descent_found : (history : List Entry) (old new : Work) (f : Sym) (formals : List Sym) (m : TermId) (x : Sym) (s : Site) (t : TermId) (guards : List Guard) (r : Option ℕ) → WorkStands history old → WorkGrows history old new → IsTrial history old.bank f formals m → IsSizeOf old.bank m x → IsSiteOf history old.bank f formals s →
     IsIdOf old.bank t (value_at (matched (texts_at old.bank formals) (terms_at old.bank s.arguments.items)) (text_at old.bank x)) → mentions (text_at old.bank f) (term_at old.bank t) ≡ false → guards ≡ s.guards.items →
-    MatchOption r (IsCoveredNest (events_at old.bank history) (Variable (text_at old.bank x)) (guards_at old.bank guards) (term_at old.bank t) → ⊥) (λ n. LineHasOnly new n (fall_clause (call1 "COUNT" (term_at old.bank t)) (size_of_variable (text_at old.bank x)) (guards_at old.bank guards))) →
+    MatchOption r (IsStructuralNest (events_at old.bank history) (Variable (text_at old.bank x)) (guards_at old.bank guards) (term_at old.bank t) → ⊥) (λ n. LineHasOnly new n (fall_clause (call1 "COUNT" (term_at old.bank t)) (size_of_variable (text_at old.bank x)) (guards_at old.bank guards))) →
     MatchOption r (DescendsAt history old.bank formals x s → ⊥) (IsFallLine new f formals m s)
 descent_found history old new f formals m x s t guards None stands grows trial size site is older same w =
-    λ d. w (subst (λ (gs : List Guard). IsCoveredNest (events_at old.bank history) (Variable (text_at old.bank x)) (guards_at old.bank gs) (term_at old.bank t)) (sym same) (subst (λ (u : Term). IsCoveredNest (events_at old.bank history) (Variable (text_at old.bank x)) (guards_at old.bank s.guards.items) u) (sym is.denotes) d))
+    λ d. w (subst (λ (gs : List Guard). IsStructuralNest (events_at old.bank history) (Variable (text_at old.bank x)) (guards_at old.bank gs) (term_at old.bank t)) (sym same) (subst (λ (u : Term). IsStructuralNest (events_at old.bank history) (Variable (text_at old.bank x)) (guards_at old.bank s.guards.items) u) (sym is.denotes) d))
 descent_found history old new f formals m x s t guards (Some n) stands grows trial size site is older same w =
     let value : Term = value_at (matched (texts_at old.bank formals) (terms_at old.bank s.arguments.items)) (text_at old.bank x) in
     let absent : mentions (text_at old.bank f) value ≡ false = subst (λ (u : Term). mentions (text_at old.bank f) u ≡ false) is.denotes older in

@@ -14,8 +14,7 @@ use Rattle.nq_proof.specs.Closed.{MeetsShellPrinciple}
 use Rattle.nq_proof.proofs.ShellSymbols.{ShellOver}
 use Rattle.nq_proof.proofs.AcceptedShells.{accepted_over}
 use Rattle.nq_arith.specs.Nests.{IsShellOf, nest, IsGuarded, recognized, no_atom, no_base, no_base_turned, no_zero, AreGuarded}
-use Rattle.nq_covered.specs.Covered.{IsCoveredNest}
-use Rattle.nq_covered.specs.Definitions.{TakesCovered}
+use Rattle.nq_arith.specs.Structural.{IsStructuralNest}
 use Rattle.nq_measures.proofs.NewNames.{not_mentioned}
 use Rattle.nq_calls.specs.Calls.{beneath, counted_calls, older_tests}
 use Rattle.nq_measures.specs.Trials.{Descends}
@@ -54,30 +53,26 @@ module _ (h : History) (f : Name) (new : is_in_use f h ≡ false) where
       guards_kept tests x (p ∷ ps) ox each g = (guard_kept tests (nest x ps) (nest_right x ps ox each.1) g.0, guards_kept tests x ps ox each.1 g.1)
 
     -- a nest under all tests is one under those that count
-    nest_kept : (x : Name) (tests : List Term) (t : Term) → IsCoveredNest h (Variable x) tests t → IsCoveredNest h (Variable x) (older_tests f tests) t
-    nest_kept x tests t c =
-        let n = c.nest in
-        record {
-          nest = record { shell = n.shell; here = n.here; first = n.first; rest = n.rest; parts = n.parts; is = n.is; guarded = guards_kept n.shell n.here tests (Variable x) (n.first ∷ n.rest) tt n.parts n.guarded };
-          covered = c.covered;
-        }
+    nest_kept : (x : Name) (tests : List Term) (t : Term) → IsStructuralNest h (Variable x) tests t → IsStructuralNest h (Variable x) (older_tests f tests) t
+    nest_kept x tests t n =
+        let kept : AreGuarded (older_tests f tests) n.shell (Variable x) (n.first ∷ n.rest) = guards_kept n.shell n.here tests (Variable x) (n.first ∷ n.rest) tt n.parts n.guarded in
+        record { shell = n.shell; here = n.here; first = n.first; rest = n.rest; parts = n.parts; is = n.is; guarded = kept }
 
     -- it does not mention the function
-    pub nest_older : (x : Name) (tests : List Term) (t : Term) → IsCoveredNest h (Variable x) tests t → mentions f t ≡ false
-    nest_older x tests t c =
-        let n = c.nest in
+    pub nest_older : (x : Name) (tests : List Term) (t : Term) → IsStructuralNest h (Variable x) tests t → mentions f t ≡ false
+    nest_older x tests t n =
         subst (λ u. mentions f u ≡ false) (sym n.is) (not_mentioned h f (nest (Variable x) (n.first ∷ n.rest)) zero new (nest_right n.shell n.here (Variable x) (n.first ∷ n.rest) tt n.parts))
 
-    descend_beneath : (xs : List Name) (x : Name) (calls : List Call) → Each (TakesCovered h xs x) calls → Each (Descends h xs x) (beneath f [] calls)
+    descend_beneath : (xs : List Name) (x : Name) (calls : List Call) → Each (Descends h xs x) calls → Each (Descends h xs x) (beneath f [] calls)
     descend_beneath xs x [] w = tt
     descend_beneath xs x (c ∷ calls) w = (nest_kept x c.tests (value_at (matched xs c.arguments) x) w.0, descend_beneath xs x calls w.1)
 
-    pub structural_descends : (xs : List Name) (x : Name) (body : Term) → Each (TakesCovered h xs x) (calls_of f body) → Each (Descends h xs x) (counted_calls f body)
+    pub structural_descends : (xs : List Name) (x : Name) (body : Term) → Each (Descends h xs x) (calls_of f body) → Each (Descends h xs x) (counted_calls f body)
     structural_descends xs x body w = descend_beneath xs x (calls_of f body) w
 
 -- a variable is no nest
-pub no_nest : (h : History) (x : Name) (tests : List Term) (t : Term) → t ≡ Variable x → IsCoveredNest h (Variable x) tests t → ⊥
-no_nest h x tests t e c = apart (Function c.nest.first.accessor) (nest (Variable x) c.nest.rest) (sym e ∙ c.nest.is)
+pub no_nest : (h : History) (x : Name) (tests : List Term) (t : Term) → t ≡ Variable x → IsStructuralNest h (Variable x) tests t → ⊥
+no_nest h x tests t e n = apart (Function n.first.accessor) (nest (Variable x) n.rest) (sym e ∙ n.is)
   where
     apart : (a b : Term) → Variable x ≡ Applied a b → ⊥
     apart a b q = cc

@@ -10,7 +10,7 @@ use Rattle.nq_bank.specs.declared.node.Sym.{Sym}
 use Rattle.nq_bank.specs.declared.node.TermId.{TermId}
 use Rattle.nq_bank.specs.Content.{Content, Stands, IsNamed, text_at, term_at, terms_at}
 use Rattle.nq_bank.specs.Shells.{texts_at}
-use Rattle.nq_covered.specs.Definitions.{IsCoveredDefinition}
+use Rattle.nq_arith.specs.Structural.{IsStructural}
 use Rattle.nq_proof.specs.Clauses.{Clause}
 use Rattle.nq_proof.specs.Laws.{LinesHold}
 use Rattle.nq_proof.specs.Rules.{has_only}
@@ -45,11 +45,11 @@ pub record IsNewFunction (history : List Entry) (bank : Content) (f : Sym) (form
   pub over : IsTermOf IsVariable ((text_at bank f, length (texts_at bank formals)) ∷ symbols_of (events_at bank history)) (term_at bank body)
   pub shallow : depth_of (term_at bank body) ≤ body_depth
 
--- where the size of each formal is tried the definition is not structural by covered shells of the history
+-- where the size of each formal is tried the definition is not structural in the history
 abbrev pub NoneIsStructural : List Entry → Content → Sym → List Sym → TermId → List TermId → Type 0
 NoneIsStructural history bank f formals body tried =
     Each (λ x. IsAmong (size_of_variable x) (terms_at bank tried)) (texts_at bank formals) →
-    IsCoveredDefinition (events_at bank history) (record { function = text_at bank f; formals = texts_at bank formals; body = term_at bank body; measure = None }) → ⊥
+    IsStructural (events_at bank history) (record { function = text_at bank f; formals = texts_at bank formals; body = term_at bank body; measure = None }) → ⊥
 
 -- the lines of one of the measures that were tried, over the work's own bank
 pub record IsFoundAmong (work : Work) (f : Sym) (formals : List Sym) (sites : List Site) (tried : List TermId) (found : Admitting) : Type 0 where

@@ -11,7 +11,7 @@ use Rattle.nq_bank.specs.declared.node.Sym.{Sym}
 use Rattle.nq_bank.specs.declared.node.TermId.{TermId}
 use Rattle.nq_bank.specs.Content.{Content, Stands, IsNamed, IsIdOf, text_at, term_at, terms_at}
 use Rattle.nq_bank.specs.Shells.{texts_at}
-use Rattle.nq_covered.specs.Covered.{IsCoveredNest}
+use Rattle.nq_arith.specs.Structural.{IsStructuralNest}
 use Rattle.nq_history.specs.declared.entry.Entry.{Entry}
 use Rattle.nq_history.specs.Events.{events_at}
 use Rattle.nq_kernel.specs.declared.work.Work.{Work}
@@ -98,9 +98,9 @@ pub record IsSizeOf (bank : Content) (measure : TermId) (x : Sym) : Type 0 where
   pub named : IsNamed bank x
   pub size : term_at bank measure ≡ size_of_variable (text_at bank x)
 
--- the call takes a part of what stands for the variable, by the accessors of a covered shell
+-- the call takes a part of what stands for the variable, by the accessors of a shell
 abbrev pub Descends : History → List Name → Name → Call → Type 0
-Descends h xs x c = IsCoveredNest h (Variable x) c.tests (value_at (matched xs c.arguments) x)
+Descends h xs x c = IsStructuralNest h (Variable x) c.tests (value_at (matched xs c.arguments) x)
 
 abbrev pub DescendsAt : List Entry → Content → List Sym → Sym → Site → Type 0
 DescendsAt history bank formals x s = Descends (events_at bank history) (texts_at bank formals) (text_at bank x) (site_at bank s)

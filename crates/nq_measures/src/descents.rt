@@ -6,7 +6,7 @@ ghost use Rattle.nq_logic.specs.Ground.{symbols_of};
 ghost use Rattle.nq_logic.specs.Sizes.{depth_of};
 ghost use Rattle.nq_bank.specs.Content.{IsIdOf, IsNamed, Stands, text_at, term_at, terms_at};
 ghost use Rattle.nq_history.specs.Events.{events_at};
-ghost use Rattle.nq_covered.specs.Covered.{IsCoveredNest};
+ghost use Rattle.nq_arith.specs.Structural.{IsStructuralNest};
 ghost use Rattle.nq_kernel.specs.Growing.{WorkStands};
 ghost use Rattle.nq_kernel.specs.Over.{IsVariable};
 ghost use Rattle.nq_kernel.specs.Ready.{IsReady, body_depth};
@@ -75,7 +75,7 @@ fn find_part(
     requires shallow { depth_of (term_at work.old.bank part) ≤ body_depth }
     requires guards { All (GuardStands work.old.bank) guards.now }
     requires tests { Each (IsShallowTerm (symbols_of (events_at work.old.bank history.now))) (guards_at work.old.bank guards.now) }
-    ensures found { IfOk result (λ found. MatchOption found (IsCoveredNest (events_at work.old.bank history.now) (Variable (text_at work.old.bank x)) (guards_at work.old.bank guards.now) (term_at work.old.bank part) → ⊥)
+    ensures found { IfOk result (λ found. MatchOption found (IsStructuralNest (events_at work.old.bank history.now) (Variable (text_at work.old.bank x)) (guards_at work.old.bank guards.now) (term_at work.old.bank part) → ⊥)
         (λ n. LineHasOnly work.new n (fall_clause (call1 "COUNT" (term_at work.old.bank part)) (size_of_variable (text_at work.old.bank x)) (guards_at work.old.bank guards.now)))) }
     ensures grows { GrowsUncounted history.now work.old work.new }
 {

@@ -236,7 +236,7 @@ fn find_among<P: Prover>(
 }
 
 /// Seeks the first of the measures that are tried that admits a definition which calls its own function: it is an ordinal, and
-/// falls at each call. Where a formal is structural by covered shells its size does so without a step, whatever the prover says.
+/// falls at each call. Where a formal is structural its size does so without a step, whatever the prover says.
 /// Where none admits it, the first obligation of each that is not proved is told, in their order.
 pub fn find_measure<P: Prover>(
     prover: &mut P,

@@ -1,31 +1,29 @@
--- The users' shells of a ready history are known, where they are covered.
-use Rattle.std.proofs.Common.{◌≡◌, ◌≤◌, ℕ, suc, Bool, true, false, ◌||◌, Option, Some, None, List, [], ◌∷◌, ◌++◌, length, inl, inr, refl, sym, ap, subst, append_assoc, append-nil}
-use Rattle.std.specs.Prelude.{bytes_eq, codes, nat_le, slice_get}
-use Rattle.std.specs.List.{list_all}
-use Rattle.std.proofs.lemmas.Bool.{leb-true}
+-- The users' shells of a ready history are known.
+use Rattle.std.proofs.Common.{◌≡◌, ℕ, suc, Bool, true, false, Option, Some, None, List, [], ◌∷◌, ◌++◌, length, inl, inr, refl, sym, ap, subst, append_assoc, append-nil}
+use Rattle.std.specs.Prelude.{bytes_eq, codes, slice_get}
 use Rattle.nq_logic.specs.Terms.{Name, Term, Function, IsAmong, Each}
-use Rattle.nq_logic.specs.Words.{call1, not_term, equal_term, zero_term}
+use Rattle.nq_logic.specs.Words.{call1, not_term, equal_term, zero_term, true_term, false_term}
 use Rattle.nq_logic.specs.Ground.{symbols_of, ground_shells}
 use Rattle.nq_logic.specs.Names.{is_in_use, symbol_names}
 use Rattle.nq_logic.specs.Histories.{History, Event, AddShell, Declaration, Defines, Axiom, Lemma, Toggle, Part, Shell, accessor_symbols, base_symbols, events_shells}
-use Rattle.nq_logic.specs.ShellPrinciple.{listed, shell_names, shells_of}
-use Rattle.nq_logic.specs.Shells.{made, part_variable, remade, whole, recognizes, is_base}
-use Rattle.nq_logic.proofs.Lists.{each_at, each_mono, among_right, among_at}
+use Rattle.nq_logic.specs.ShellPrinciple.{shell_names, shells_of}
+use Rattle.nq_logic.specs.Shells.{made, made_with, part_variable, remade, whole, recognizes, is_base}
+use Rattle.nq_logic.proofs.Lists.{each_at, each_among, among_right, among_at}
 use Rattle.nq_proof.specs.Clauses.{Clause}
 use Rattle.nq_proof.specs.Closed.{MeetsShellPrinciple}
 use Rattle.nq_proof.specs.Rows.{base_row, found_row}
 use Rattle.nq_proof.proofs.AcceptedShells.{accepted_over}
 use Rattle.nq_proof.proofs.ShellSymbols.{ShellOver}
-use Rattle.nq_proof.proofs.Tests.{and_left, and_right, names_same}
+use Rattle.nq_proof.proofs.Tests.{names_same}
 use Rattle.nq_log.specs.Laws.{EventHolds, HoldFrom}
-use Rattle.nq_kernel.specs.Ready.{IsReady}
+use Rattle.nq_kernel.specs.Ready.{IsLimitedShell, IsReady}
 use Rattle.nq_kernel.proofs.ReadyLemmas.{ready_sound}
 use Rattle.nq_arith.specs.Nests.{accessor_of}
 use Rattle.nq_lines.specs.OwnTerms.{HasOwnTerms}
-use Rattle.nq_covered.specs.Covered.{has_base, is_covered, is_free, is_plain, part_limit, recognizer_limit}
-use Rattle.nq_part_lines.specs.Known.{IsKnownPart, IsKnownShell, HasZeroBases, HasKnownRows, allowed, size_is}
+use Rattle.nq_part_lines.specs.Known.{AreNoObjects, IsKnownPart, IsKnownShell, HasZeroBases, HasKnownRows, allowed, size_is}
+use Rattle.nq_part_lines.proofs.DefaultLemmas.{default_told, limited}
 use Rattle.nq_part_lines.proofs.RowLemmas.{row_there}
-use Rattle.nq_part_lines.proofs.RoomLemmas.{IsFew, again_low, allowed_low, allowed_row_low, constant_low, denied_low, size_row_low, taken_low, variable_low, zero_low}
+use Rattle.nq_part_lines.proofs.RoomLemmas.{IsFew, again_low, allowed_low, allowed_row_low, constant_low, denied_low, put_low, recognizes_low, size_row_low, taken_low, variable_low, zero_low}
 
 hold_at : (b before after : History) (e : Event) → HoldFrom b (before ++ (e ∷ after)) → EventHolds (b ++ before) e
 hold_at b [] after e w = subst (λ k. EventHolds k e) (sym (append-nil b)) w.0
@@ -87,17 +85,6 @@ recognizer_named s = inr (behind_base s.recognizer s s.base (inl refl))
 pub base_named : (s : Shell) (b : Name) → s.base ≡ Some b → IsAmong b (shell_names s)
 base_named s b e = subst (λ o. IsAmong b (symbol_names ((s.constructor, length s.parts) ∷ (base_symbols o ++ ((s.recognizer, 1) ∷ accessor_symbols s.parts))))) (sym e) (inr (inl refl))
 
--- what a covered shell's parts are
-plain_parts : (shells : List Shell) (parts : List Part) → list_all (is_plain shells) parts ≡ true → Each (λ part. is_plain shells part ≡ true) parts
-plain_parts shells [] e = tt
-plain_parts shells (p ∷ parts) e = (and_left (is_plain shells p) (list_all (is_plain shells) parts) e, plain_parts shells parts (and_right (is_plain shells p) (list_all (is_plain shells) parts) e))
-
-few_of : (shells : List Shell) (part : Part) → is_plain shells part ≡ true → IsFew part
-few_of shells part e = leb-true (length (listed part.restriction)) recognizer_limit (and_left (nat_le (length (listed part.restriction)) recognizer_limit) (is_free part.restriction || has_base part.default shells) e)
-
-usable_of : (shells : List Shell) (part : Part) → is_plain shells part ≡ true → (is_free part.restriction || has_base part.default shells) ≡ true
-usable_of shells part e = and_right (nat_le (length (listed part.restriction)) recognizer_limit) (is_free part.restriction || has_base part.default shells) e
-
 -- the part at a place
 at_place : (P : ℕ → Part → Clause) (parts : List Part) (k : ℕ) (part : Part) → slice_get parts k ≡ Some part → found_row (suc k) (λ k part. Some (P k part)) parts ≡ Some (P k part)
 at_place P parts k part e = ap (λ o. elim o as (λ o. Option (List Term)) [ None ↦ None | Some x ↦ Some (P k x) ]) e
@@ -110,27 +97,31 @@ module _ (h : History) (ready : IsReady h) where
         low = (zero_low d, tt);
       }
 
-  pub known_rows : HasOwnTerms h → HasKnownRows h
-  known_rows own = record { bases = zero_bases; own = own }
+  -- T and F are no objects of a shell
+  no_objects : (s : Shell) → IsAmong s (shells_of h) → AreNoObjects h s
+  no_objects s m =
+      record {
+        truth = record { is = row_there 11 0 h s (not_term (recognizes s true_term) ∷ []) refl refl ready m (λ earlier. refl); low = (recognizes_low s (codes "TRUE"), tt) };
+        falsity = record { is = row_there 12 0 h s (not_term (recognizes s false_term) ∷ []) refl refl ready m (λ earlier. refl); low = (recognizes_low s (codes "FALSE"), tt) };
+      }
 
-  module _ (s : Shell) (m : IsAmong s (events_shells h)) (covered : is_covered (shells_of h) s ≡ true) where
+  pub known_rows : HasOwnTerms h → HasKnownRows h
+  known_rows own = record { bases = zero_bases; truths = each_among (AreNoObjects h) (shells_of h) no_objects; own = own }
+
+  module _ (s : Shell) (m : IsAmong s (events_shells h)) where
     here : IsAmong s (shells_of h)
     here = among_right s ground_shells (events_shells h) m
 
     accepted : MeetsShellPrinciple h
     accepted = shells_accepted h ready
 
-    plain : Each (λ part. is_plain (shells_of h) part ≡ true) s.parts
-    plain = plain_parts (shells_of h) s.parts (and_right (nat_le (length s.parts) part_limit) (list_all (is_plain (shells_of h)) s.parts) covered)
-
-    few : Each IsFew s.parts
-    few = each_mono (λ part. is_plain (shells_of h) part ≡ true) IsFew (λ part e. few_of (shells_of h) part e) s.parts plain
+    few : IsLimitedShell s
+    few = limited h s ready m
 
     part_known : (k : ℕ) (part : Part) → slice_get s.parts k ≡ Some part → IsKnownPart h s k part
     part_known k part e =
         let among : IsAmong part s.parts = among_at part s.parts k e in
-        let is : is_plain (shells_of h) part ≡ true = each_at (λ part. is_plain (shells_of h) part ≡ true) part s.parts plain among in
-        let little : IsFew part = few_of (shells_of h) part is in
+        let little : IsFew part = each_at IsFew part s.parts few.few_recognizers among in
         let names = new_names h s accepted m in
         let new : is_in_use part.accessor names.0 ≡ false = each_at (λ name. is_in_use name names.0 ≡ false) part.accessor (shell_names s) names.1 (accessor_named s part among) in
         record {
@@ -144,17 +135,22 @@ module _ (h : History) (ready : IsReady h) where
                 is = row_there 7 (suc k) h s (allowed k part ∷ equal_term (accessor_of part (made s)) (Function part.default) ∷ []) refl refl ready here (λ earlier. at_place (λ k part. allowed k part ∷ equal_term (accessor_of part (made s)) (Function part.default) ∷ []) s.parts k part e);
                 low = (allowed_row_low k part little, (taken_low s part (Function part.default) (constant_low part.default), tt));
               };
+          same =
+              record {
+                is = row_there 10 (suc k) h s (allowed k part ∷ equal_term (made s) (made_with s k (Function part.default)) ∷ []) refl refl ready here (λ earlier. at_place (λ k part. allowed k part ∷ equal_term (made s) (made_with s k (Function part.default)) ∷ []) s.parts k part e);
+                low = (allowed_row_low k part little, (put_low s k (Function part.default) (constant_low part.default), tt));
+              };
           other = other_name names.0 part.accessor (codes "ADD1") new (add1_used names.0);
-          usable = usable_of (shells_of h) part is;
+          few = little;
+          default_is = default_told h accepted s here part among;
         }
 
     pub known_shell : IsKnownShell h s
     known_shell =
-        let many : length s.parts ≤ part_limit = leb-true (length s.parts) part_limit (and_left (nat_le (length s.parts) part_limit) (list_all (is_plain (shells_of h)) s.parts) covered) in
         let over : ShellOver (symbols_of h) s = each_at (ShellOver (symbols_of h)) s (shells_of h) (accepted_over h accepted) here in
         record {
           again = record { is = row_there 5 0 h s (not_term (recognizes s whole) ∷ (is_base s.base ++ (equal_term (remade s) whole ∷ []))) refl refl ready here (λ earlier. refl); low = again_low s };
-          size = record { is = row_there 14 0 h s (size_is s ∷ []) refl refl ready here (λ earlier. refl); low = (size_row_low s many few, tt) };
+          size = record { is = row_there 14 0 h s (size_is s ∷ []) refl refl ready here (λ earlier. refl); low = (size_row_low s few.few_parts few.few_recognizers, tt) };
           parts = part_known;
           accessors = over.accessors;
         }

@@ -10,10 +10,13 @@ pub mod RowLemmas
 pub mod FiveLemmas
 pub mod TakenLemmas
 pub mod RoomLemmas
+pub mod DefaultLemmas
 pub mod KnownLemmas
 pub mod ObjectLemmas
 pub mod WholeLemmas
 pub mod KnownGrowth
+pub mod PutLemmas
+pub mod DefaultedLemmas
 pub mod BaseLemmas
 pub mod PartLemmas
 pub mod OwnLemmas
@@ -22,3 +25,7 @@ pub mod PartPairLemmas
 pub mod PartCallLemmas
 pub mod MovedLemmas
 pub mod RemadeLemmas
+pub mod KindLemmas
+pub mod ChoiceLemmas
+pub mod MeetLemmas
+pub mod PartKindLemmas

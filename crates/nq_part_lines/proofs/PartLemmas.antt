@@ -26,7 +26,7 @@ use Rattle.nq_arith.specs.Nests.{accessor_of, is_smaller}
 use Rattle.nq_lines.specs.Lines.{AreAmong, CutsTo, LineHasOnly}
 use Rattle.nq_lines.proofs.LineLemmas.{from_distinct, only_grown}
 use Rattle.nq_lines.proofs.TermLemmas.{id_in}
-use Rattle.nq_covered.specs.Covered.{is_free}
+use Rattle.nq_part_lines.specs.Defaults.{is_free}
 use Rattle.nq_part_lines.specs.LawLines.{term_room}
 use Rattle.nq_part_lines.specs.Known.{IsKnownPart, IsKnownShell, IsRow, allowed, row_room, size_is}
 use Rattle.nq_part_lines.specs.Objects.{IsAccessed, IsSized, IsTaken}

@@ -1,13 +1,13 @@
 -- How deep the terms of a shell's rows are.
-use Rattle.std.proofs.Common.{◌≡◌, ◌≤◌, ◌+◌, ℕ, suc, max, Option, Some, None, List, [], ◌∷◌, ◌++◌, length, refl, ap, arith}
-use Rattle.std.specs.Prelude.{codes}
+use Rattle.std.proofs.Common.{◌≡◌, ◌≤◌, ◌+◌, ℕ, zero, suc, max, Option, Some, None, List, [], ◌∷◌, ◌++◌, length, refl, ap, arith}
+use Rattle.std.specs.Prelude.{codes, slice_set}
 use Rattle.nq_logic.specs.Terms.{Name, Term, Variable, Function, Applied, call, Each}
 use Rattle.nq_logic.specs.Words.{call1, not_term, equal_term, if_term, zero_term, add1_term}
 use Rattle.nq_logic.specs.Numerals.{number_of}
 use Rattle.nq_logic.specs.Sizes.{depth_of, greatest_depth, tree_depth}
 use Rattle.nq_logic.specs.Histories.{Part, Shell, Restriction, OneOf, NoneOf}
 use Rattle.nq_logic.specs.ShellPrinciple.{listed}
-use Rattle.nq_logic.specs.Shells.{made, remade, whole, part_sizes, part_variable, part_variables, restricted, recognized, recognizes, is_base, sum_of, either_of, accessed}
+use Rattle.nq_logic.specs.Shells.{made, made_with, remade, whole, part_sizes, part_variable, part_variables, restricted, recognized, recognizes, is_base, sum_of, either_of, accessed}
 use Rattle.nq_logic.proofs.Lists.{each_append}
 use Rattle.nq_bank.proofs.Numerals.{depth_of-number, depth_of-other}
 use Rattle.nq_arith.specs.Nests.{accessor_of}
@@ -99,6 +99,21 @@ made_low s =
     let rest = variables_low 0 s.parts in
     omega (arith, whole, rest)
 
+-- with a constant in the place of one
+set_low : (ts : List Term) (k : ℕ) (t : Term) → greatest_depth ts ≤ 1 → depth_of t ≤ 1 → greatest_depth (slice_set ts k t) ≤ 1
+set_low [] k t h l = omega arith
+set_low (u ∷ ts) zero t h l = omega (arith, h, l)
+set_low (u ∷ ts) (suc k) t h l =
+    let first : greatest_depth ts ≤ 1 = omega (arith, h) in
+    let rest = set_low ts k t first l in
+    omega (arith, h, rest)
+
+pub made_with_low : (s : Shell) (k : ℕ) (t : Term) → depth_of t ≤ 1 → depth_of (made_with s k t) ≤ 2
+made_with_low s k t l =
+    let whole = call_low s.constructor (slice_set (part_variables 0 s.parts) k t) in
+    let rest = set_low (part_variables 0 s.parts) k t (variables_low 0 s.parts) l in
+    omega (arith, whole, rest)
+
 accessed_low : (parts : List Part) → greatest_depth (accessed whole parts) ≤ 2
 accessed_low [] = omega arith
 accessed_low (part ∷ parts) =
@@ -129,6 +144,12 @@ size_row_low s few parts =
 pub equal_low : (a b : Term) → depth_of a ≤ 103 → depth_of b ≤ 103 → depth_of (equal_term a b) ≤ row_room
 equal_low a b h k = let low = two_low (codes "EQUAL") a b 103 h k in omega (arith, low)
 
+pub put_low : (s : Shell) (k : ℕ) (t : Term) → depth_of t ≤ 1 → depth_of (equal_term (made s) (made_with s k t)) ≤ row_room
+put_low s k t l =
+    let object = made_low s in
+    let put = made_with_low s k t l in
+    equal_low (made s) (made_with s k t) (omega (arith, object)) (omega (arith, put))
+
 pub taken_low : (s : Shell) (part : Part) (t : Term) → depth_of t ≤ 1 → depth_of (equal_term (accessor_of part (made s)) t) ≤ row_room
 taken_low s part t h =
     let object = made_low s in
@@ -139,6 +160,13 @@ taken_low s part t h =
 
 pub denied_low : (t : Term) → depth_of t ≤ 103 → depth_of (not_term t) ≤ row_room
 denied_low t h = let low = one_depth (codes "NOT") t in omega (arith, low, h)
+
+-- that a constant is no object
+pub recognizes_low : (s : Shell) (f : Name) → depth_of (not_term (recognizes s (Function f))) ≤ row_room
+recognizes_low s f =
+    let one = constant_low f in
+    let low : depth_of (recognizes s (Function f)) ≤ depth_of (Function f) + 1 = one_depth s.recognizer (Function f) in
+    denied_low (recognizes s (Function f)) (omega (arith, one, low))
 
 pub allowed_row_low : (k : ℕ) (part : Part) → IsFew part → depth_of (allowed k part) ≤ row_room
 allowed_row_low k part few = let low = allowed_low k part few in omega (arith, low)

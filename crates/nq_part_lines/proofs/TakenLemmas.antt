@@ -109,7 +109,7 @@ pub only_first : (l : Term) (these : List Term) → AreAmong (l ∷ []) (l ∷ t
 only_first l these v (inl e) = inl e
 only_first l these v (inr none) = absurd none
 
-turned : (q g : Term) (these : List Term) → AreAmong (g ∷ q ∷ []) (q ∷ g ∷ these)
+pub turned : (q g : Term) (these : List Term) → AreAmong (g ∷ q ∷ []) (q ∷ g ∷ these)
 turned q g these v (inl e) = inr (inl e)
 turned q g these v (inr (inl e)) = inl e
 turned q g these v (inr (inr none)) = absurd none

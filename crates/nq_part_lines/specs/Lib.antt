@@ -5,6 +5,9 @@ pub mod Small
 pub mod Five
 pub mod Taken
 pub mod Pieces
+pub mod Defaults
+pub mod Decisions
+pub mod Defaulted
 pub mod Known
 pub mod KnownLaws
 pub mod Objects

@@ -1,10 +1,10 @@
 //! What ready histories tell of their shells.
-ghost use Rattle.nq_part_lines.specs.KnownLaws.{CoveredIsKnown, ReadyRows, UserNamesAreNew};
+ghost use Rattle.nq_part_lines.specs.KnownLaws.{ReadyRows, UserNamesAreNew, UsersAreKnown};
 
-/// Tells a caller's proof that the rows of shells are there, that a user's shell that is covered is known, and that the names of users'
-/// shells are new. It does nothing.
+/// Tells a caller's proof that the rows of shells are there, that each user's shell is known, and that the names of users' shells are
+/// new. It does nothing.
 pub fn known_shells()
     ensures rows { ReadyRows }
-    ensures known { CoveredIsKnown }
+    ensures known { UsersAreKnown }
     ensures names { UserNamesAreNew }
 {}

@@ -16,6 +16,14 @@ mod reading;
 // a summand is less than one more than the sum
 mod sums;
 
+// T and F, where they are defaults
+mod choices;
+mod defaulted;
+mod free;
+mod kinds;
+mod meets;
+mod others;
+
 // what an accessor takes from an object that was just made is smaller than the object
 mod objects;
 mod taken;

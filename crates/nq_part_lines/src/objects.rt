@@ -1,5 +1,5 @@
 //! What the accessor takes from an object that a shell's constructor makes of its variables is smaller than the object.
-ghost use Rattle.std.specs.Prelude.{◌≡◌, ◌≤◌, ◌<◌, ◌∷◌, [], All, IfOk, MatchOption, Some, false, true, length, slice_get};
+ghost use Rattle.std.specs.Prelude.{◌≡◌, ◌≤◌, ◌<◌, ◌∷◌, [], All, IfOk, MatchOption, Some, bytes_eq, codes, false, true, length, slice_get};
 ghost use Rattle.nq_logic.specs.Terms.{Applied, Function, IsAmong};
 ghost use Rattle.nq_logic.specs.Ground.{symbols_of};
 ghost use Rattle.nq_logic.specs.ShellPrinciple.{shells_of};
@@ -10,7 +10,7 @@ ghost use Rattle.nq_logic.specs.Shells.{made};
 ghost use Rattle.nq_arith.specs.Nests.{is_smaller};
 ghost use Rattle.nq_bank.specs.Content.{IsIdOf, IsNamed, term_at, text_at};
 ghost use Rattle.nq_bank.specs.Shells.{ShellStands, shell_at, shells_at};
-ghost use Rattle.nq_covered.specs.Covered.{has_base};
+ghost use Rattle.nq_part_lines.specs.Defaults.{has_base, is_free};
 ghost use Rattle.nq_history.specs.Events.{events_at};
 ghost use Rattle.nq_kernel.specs.Growing.{WorkStands, LineHolds};
 ghost use Rattle.nq_lines.specs.Lines.{LineHasOnly};
@@ -19,13 +19,14 @@ ghost use Rattle.nq_part_lines.specs.Known.{HasKnownRows, IsKnownShell, row_room
 ghost use Rattle.nq_part_lines.specs.Objects.{HasThisBase, IsAccessed, IsSized, IsTaken, IsZeroBase};
 ghost use Rattle.nq_part_lines.specs.Small.{IsSmallIn};
 
+use crate::defaulted::truth_default_line;
+use crate::free::is_free;
 use crate::lines::cut;
 use crate::piece::Piece;
 use crate::reading::{only_literal, read_piece, small_argument};
 use crate::rows::row_line;
 use crate::taken::{allowed_line, base_line};
 use nq_bank::{Bank, BankFault, Shell, Sym, TermId, ground, ground_name, is_same_name};
-use nq_covered::is_free;
 use nq_history::History;
 use nq_kernel::Work;
 use nq_shell_parts::summands_found;
@@ -275,6 +276,44 @@ fn default_line(
     )
 }
 
+/// Is T the default? Else it is F, where it is one of them.
+fn is_truth(work: &Work, default: Sym) -> bool
+    requires named { IsNamed work.now.bank default }
+    ensures { result ≡ bytes_eq (text_at work.now.bank default) (codes "TRUE") }
+{
+    is_same_name(&work.bank, default, ground_name(&work.bank, ground::TRUE))
+}
+
+/// Adds the line that a part is allowed or smaller, where it has a restriction.
+fn restricted_line(
+    work: &mut Work,
+    history: &History,
+    shell: &Shell,
+    sized: Sized,
+    taken: TermId,
+    place: usize,
+) -> Result<u64, AllocError>
+    requires stands { WorkStands history.now work.old }
+    requires shell { ShellStands work.old.bank shell.now }
+    requires known { IsKnownShell (events_at work.old.bank history.now) (shell_at work.old.bank shell.now) }
+    requires rows { HasKnownRows (events_at work.old.bank history.now) }
+    requires place { place < length shell.now.parts.items }
+    requires sized { IsSized history.now work.old (shell_at work.old.bank shell.now) place sized }
+    requires taken { IsAccessed history.now work.old (shell_at work.old.bank shell.now) place taken }
+    requires restricted { (part : Part) → slice_get (shell_at work.old.bank shell.now).parts place ≡ Some part → is_free part.restriction ≡ false }
+    ensures line { IfOk result (λ n. LineHasOnly work.new n (term_at work.old.bank sized.piece.allowed ∷ is_smaller (term_at work.old.bank taken) (term_at work.old.bank sized.piece.object) ∷ [])) }
+    ensures grows { GrowsUncounted history.now work.old work.new }
+{
+    let default = shell.parts[place].default;
+    match shell_of_base(&work.bank, history.shells(), default) {
+        Some(_) => default_line(work, history, shell, sized, taken, place),
+        None => {
+            let yes = is_truth(work, default);
+            truth_default_line(work, history, shell, sized, taken, place, yes)
+        },
+    }
+}
+
 /// Adds the line that a part is allowed, where it has no restriction, or else that it is allowed or smaller.
 fn other_line(
     work: &mut Work,
@@ -298,7 +337,7 @@ fn other_line(
     if is_free(part) {
         truth_line(work, history)
     } else {
-        default_line(work, history, shell, sized, taken, place)
+        restricted_line(work, history, shell, sized, taken, place)
     }
 }
 

@@ -19,7 +19,7 @@ use Rattle.std.specs.declared.alloc.AllocError.{AllocError}
 use Rattle.nq_history.specs.declared.entry.Entry.{Entry}
 use Rattle.nq_history.proofs.ShellLemmas.{names-grown, texts-grown}
 use Rattle.nq_language.specs.Printing.{printed}
-use Rattle.nq_covered.specs.Definitions.{IsCoveredDefinition}
+use Rattle.nq_arith.specs.Structural.{IsStructural}
 use Rattle.nq_event.specs.declared.event.Measure.{Measure}
 use Rattle.nq_event.specs.EventsAt.{DefnStands, measure_at}
 use Rattle.nq_events.specs.Events as model
@@ -149,8 +149,8 @@ module _ (old : Session) (grown : Content) (name : Sym) (formals : List Sym) (bo
     session_same = ap (λ (b : Content). events_at b old.history) same ∙ same_history old grown stands grows
 
     -- nothing is kept
-    not_structural : terms_at grown tried ≡ tried_measures xs ms → NoneIsStructural old.history grown name formals body tried → IsCoveredDefinition h (plain_definition f xs t) → ⊥
-    not_structural told is = back (λ (k : History) (n : Name) (ys : List Name) (u : Term). Each (λ x. IsAmong (size_measure x) (terms_at grown tried)) ys → IsCoveredDefinition k (plain_definition n ys u) → ⊥) is
+    not_structural : terms_at grown tried ≡ tried_measures xs ms → NoneIsStructural old.history grown name formals body tried → IsStructural h (plain_definition f xs t) → ⊥
+    not_structural told is = back (λ (k : History) (n : Name) (ys : List Name) (u : Term). Each (λ x. IsAmong (size_measure x) (terms_at grown tried)) ys → IsStructural k (plain_definition n ys u) → ⊥) is
         (subst (λ (ts : List Term). Each (λ x. IsAmong (size_measure x) ts) xs) (sym told) (sizes_tried ms xs))
 
     pub left : (limit : ℕ) (mark : Mark) (form : Form) (logging : Bool) (trials : List Trial) (r : Taken) → IsMarkBefore old.bank old.history mark → terms_at grown tried ≡ tried_measures xs ms → NoneIsStructural old.history grown name formals body tried

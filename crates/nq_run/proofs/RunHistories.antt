@@ -127,7 +127,7 @@ module _ (limit : ℕ) (h : History) (form : Form) (made : IsMade h) where
   outcome_made (AddShell shell) answer grow spelled none so =
       let own : own_refusal h (AddShell shell) ≡ None = no_refusal (own_refusal h (AddShell shell)) none in
       answered (AddShell shell) answer Accepted so
-      (gains (logic.AddShell shell) shell.constructor (free_constructor h shell own spelled) (shell_ready h shell own) (shells_bring_few_names shell spelled) (grow own None))
+      (gains (logic.AddShell shell) shell.constructor (free_constructor h shell own spelled) (shell_ready h shell own spelled) (shells_bring_few_names shell spelled) (grow own None))
   outcome_made (Dcl name formals) answer grow spelled none so =
       let own : own_refusal h (Dcl name formals) ≡ None = no_refusal (own_refusal h (Dcl name formals)) none in
       let free : IsFree h name = dcl_free h name formals spelled.symbol none in

@@ -1,5 +1,5 @@
 -- Shells that are added, and why others are not.
-use Rattle.std.proofs.Common.{◌≡◌, ℕ, Bool, true, false, List, [], ◌∷◌, ◌++◌, length, map, refl, ap, sym, subst, ◌∙◌, inl, inr}
+use Rattle.std.proofs.Common.{◌≡◌, ℕ, Bool, true, false, List, [], ◌∷◌, ◌++◌, length, map, refl, ap, sym, subst, ◌∙◌, ◌≤◌, leb-true, inl, inr}
 use Rattle.std.specs.Prelude.{All, IfOk, IsTrue, None, Option, Some, Result, Ok, Err, ◌&&◌, if◌then◌else◌, is_none, nat_le}
 use Rattle.std.specs.List.{filter}
 use Rattle.std.proofs.lemmas.Bool.{lt-ltb}
@@ -9,8 +9,9 @@ use Rattle.nq_logic.specs.Terms.{Each, IsAmong, Name}
 use Rattle.nq_logic.specs.Histories as logic
 use Rattle.nq_logic.specs.Histories.{History, accessor_symbols, base_symbols}
 use Rattle.nq_logic.specs.Names.{event_names, has_name, is_in_use, symbol_names}
-use Rattle.nq_logic.specs.ShellPrinciple.{ShellRefusal, shell_names, shell_refusal, shells_of}
+use Rattle.nq_logic.specs.ShellPrinciple.{ShellRefusal, listed, shell_names, shell_refusal, shells_of}
 use Rattle.nq_logic.proofs.Tests.{names_found_law}
+use Rattle.nq_proof.proofs.Tests.{and_left, and_right}
 use Rattle.nq_bank.specs.declared.node.Mark.{Mark}
 use Rattle.nq_bank.specs.declared.node.Sym.{Sym}
 use Rattle.nq_bank.specs.declared.shell.Part.{Part}
@@ -24,7 +25,7 @@ use Rattle.nq_history.specs.Events.{events_at, EntryStands}
 use Rattle.nq_history.proofs.Lists.{All-none, All-cons}
 use Rattle.nq_shell.specs.Admission.{AreUsed}
 use Rattle.nq_form.specs.Form.{Form}
-use Rattle.nq_kernel.specs.Ready.{IsReadyEvent}
+use Rattle.nq_kernel.specs.Ready.{IsLimitedShell, IsReadyEvent, part_limit, recognizer_limit}
 use Rattle.nq_log.specs.States.{Adds}
 use Rattle.nq_log.specs.ClosingLines.{are_short, has_room}
 use Rattle.nq_block.specs.Blocks.{IsBlock}
@@ -137,6 +138,17 @@ used_told bank history s names used named is =
     ap (texts_at bank) (is ∙ ap (filter (used_in bank history)) named) ∙ texts_kept p bank (names_in s) ∙ ap (filter p) (names_are bank s) in
     record { told = subst (λ (kept : List Name). Each (λ n. p n ≡ has_name n kept) all) (sym texts) (each_told p all all (λ n among. among)) }
 
+-- ---- a spelled shell is within the limits
+
+few_listed : (parts : List logic.Part) → are_short parts ≡ true → Each (λ part. length (listed part.restriction) ≤ recognizer_limit) parts
+few_listed [] e = tt
+few_listed (part ∷ parts) e =
+    let few : nat_le (length (listed part.restriction)) recognizer_limit ≡ true = and_left (nat_le (length (listed part.restriction)) recognizer_limit) (are_short parts) e in
+    (leb-true (length (listed part.restriction)) recognizer_limit few, few_listed parts (and_right (nat_le (length (listed part.restriction)) recognizer_limit) (are_short parts) e))
+
+limited : (s : logic.Shell) → IsSpelledShell s → IsLimitedShell s
+limited s spelled = record { few_parts = leb-true (length s.parts) part_limit spelled.few; few_recognizers = few_listed s.parts spelled.short }
+
 -- ---- why a shell is refused
 
 module _ (h : History) (s : logic.Shell) where
@@ -182,8 +194,8 @@ module _ (h : History) (s : logic.Shell) where
     parts_spelled = spelled.parts_spelled;
   }
 
-  pub shell_ready : own_refusal h (model.AddShell s) ≡ None → IsReadyEvent h (logic.AddShell s)
-  shell_ready e = let is = (allowed e).accepted in record { unused = is.unused.0; holds = is; spelled = tt }
+  pub shell_ready : own_refusal h (model.AddShell s) ≡ None → IsSpelledShell s → IsReadyEvent h (logic.AddShell s)
+  shell_ready e spelled = let is = (allowed e).accepted in record { unused = is.unused.0; holds = is; spelled = limited s spelled }
 
   pub free_constructor : own_refusal h (model.AddShell s) ≡ None → IsSpelledShell s → IsFree h s.constructor
   free_constructor e spelled = record { symbol = spelled.constructor_spelled; unused = (allowed e).accepted.unused.0; room = room e }

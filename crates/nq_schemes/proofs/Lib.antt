@@ -1,5 +1,6 @@
 mod KnownLemmas
 mod GrownLemmas
 mod MadeLemmas
+mod SingleLemmas
 mod SizeLemmas
 mod OrdinalLemmas

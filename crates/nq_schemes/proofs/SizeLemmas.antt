@@ -1,8 +1,9 @@
 -- The size of a variable, and the line that it is an ordinal.
-use Rattle.std.proofs.Common.{◌≡◌, ◌≤◌, ◌∙◌, ℕ, [], ◌∷◌, List, sym, ap, subst}
+use Rattle.std.proofs.Common.{◌≡◌, ◌≤◌, ◌∙◌, ℕ, [], ◌∷◌, List, sym, ap, subst, arith}
 use Rattle.nq_logic.specs.Terms.{Name, Term, Variable}
-use Rattle.nq_logic.specs.Words.{call1}
-use Rattle.nq_logic.specs.Sizes.{depth_of}
+use Rattle.nq_logic.specs.Numerals.{number_of}
+use Rattle.nq_logic.specs.Words.{call1, true_term}
+use Rattle.nq_logic.specs.Sizes.{depth_of, tree_depth}
 use Rattle.nq_bank.specs.declared.node.TermId.{TermId}
 use Rattle.nq_bank.specs.Content.{IsIdOf, term_at}
 use Rattle.nq_history.specs.declared.entry.Entry.{Entry}
@@ -15,6 +16,10 @@ use Rattle.nq_decrease.proofs.NestLines.{variable_room}
 
 pub variable_shallow : (work : Work) (t : TermId) (x : Name) → term_at work.bank t ≡ Variable x → depth_of (term_at work.bank t) ≤ term_room
 variable_shallow work t x is = subst (λ (u : Term). depth_of u ≤ term_room) (sym is) (variable_room x)
+
+pub truth_shallow : (work : Work) (t : TermId) → term_at work.bank t ≡ true_term → depth_of (term_at work.bank t) ≤ term_room
+unfolding number_of tree_depth
+truth_shallow work t is = subst (λ (u : Term). depth_of u ≤ term_room) (sym is) (omega arith)
 
 -- the line was made of the variable, and speaks of the measure
 pub ordinal_kept : (history : List Entry) (w0 w1 w2 : Work) (v m : TermId) (n : ℕ) → WorkGrows history w0 w1 → WorkGrows history w1 w2 → IsTermIn history w0 v → IsTermIn history w1 m →

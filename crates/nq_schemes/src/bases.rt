@@ -26,7 +26,11 @@ use nq_lines::Fact;
 use nq_ready::own_terms;
 
 /// The size of a variable, and the line that it is an ordinal.
-fn ordinal_of_size(work: &mut Work, history: &History, whole: SizedVariable) -> Result<Fact, Stop>
+pub fn ordinal_of_size(
+    work: &mut Work,
+    history: &History,
+    whole: SizedVariable,
+) -> Result<Fact, Stop>
     requires stands { WorkStands history.now work.old }
     requires whole { IsSizedIn history.now work.old whole }
     ensures ordinal { IfOk result (IsOrdinalIn history.now work.new) }
@@ -89,7 +93,7 @@ fn ordinal_under(
 }
 
 /// The ordinal that serves for a measure at a call.
-fn ordinal_of_measure(
+pub fn ordinal_of_measure(
     work: &mut Work,
     history: &History,
     opened: &[Opened],
@@ -113,7 +117,7 @@ fn ordinal_of_measure(
 }
 
 /// What the lines of a scheme stand on where this ordinal falls.
-fn basis_with(
+pub fn basis_with(
     work: &mut Work,
     history: &History,
     opened: Vec<Opened>,

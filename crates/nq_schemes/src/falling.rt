@@ -71,7 +71,7 @@ fn changes_at(
 }
 
 /// What falls where a call of the function suggests the scheme.
-fn falling_by(bank: &Bank, recursion: &Recursion, call: TermId) -> Result<Falling, AllocError>
+pub fn falling_by(bank: &Bank, recursion: &Recursion, call: TermId) -> Result<Falling, AllocError>
     requires { Stands bank.now call }
 {
     let measured = arguments_at(bank, recursion.measured.as_slice(), call)?;

@@ -56,6 +56,12 @@ mod plain;
 mod showing;
 mod starting;
 
+// the plain scheme of a call, which is always there
+mod certain;
+mod finding;
+mod guess;
+mod single;
+
 // the schemes of a goal
 mod schemes;
 

@@ -70,7 +70,7 @@ fn opened_in(
 }
 
 /// One call more, if there is one.
-fn add_opened(opened: &mut Vec<Opened>, found: Option<Opened>) -> Result<(), Stop>
+pub fn add_opened(opened: &mut Vec<Opened>, found: Option<Opened>) -> Result<(), Stop>
     ensures more { OnOk result (opened.new.items ≡ with_some opened.old.items found) }
     ensures memory { result ≡ Err Stop.OutOfSteps → ⊥ }
 {

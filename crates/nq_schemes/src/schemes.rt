@@ -1,16 +1,18 @@
 //! The scheme of a draft, and the schemes that a goal suggests.
-ghost use Rattle.std.specs.Prelude.{◌≡◌, ◌∷◌, [], false, All, Err, IfOk, IfSome, None, OnOk};
+ghost use Rattle.std.specs.Prelude.{◌≡◌, ◌<◌, ◌∷◌, [], false, All, Err, IfOk, IfSome, None, OnOk, length};
 ghost use Rattle.nq_history.specs.Events.{events_at};
 ghost use Rattle.nq_kernel.specs.Growing.{WorkStands, WorkGrows};
 ghost use Rattle.nq_kernel.specs.Ready.{IsReady};
 ghost use Rattle.nq_lines.specs.Lines.{IsTermIn};
 ghost use Rattle.nq_induct.specs.Schemes.{IsCaseIn, IsSchemeIn};
 ghost use Rattle.nq_schemes.specs.Known.{IsOpenedIn, with_some};
+ghost use Rattle.nq_schemes.specs.Single.{HasCases};
 ghost use Rattle.nq_schemes.specs.Steps.{IsBasisIn};
 ghost use Rattle.nq_schemes.specs.Suggesting.{NoneSuggests, NoneSuggestsIn};
 
 use crate::bases::basis_of;
 use crate::basis::Basis;
+use crate::certain::found_or_plain;
 use crate::choosing::choose;
 use crate::draft::{Draft, DraftCase};
 use crate::drafting::drafts_of;
@@ -70,6 +72,7 @@ fn scheme_by(
     requires stands { WorkStands history.now work.old }
     requires basis { IsBasisIn history.now work.old basis.now }
     ensures scheme { IfOk result (λ found. IfSome found (IsSchemeIn history.now work.new)) }
+    ensures cases { IfOk result (λ found. IfSome found HasCases) }
     ensures grows { WorkGrows history.now work.old work.new }
     ensures out { result ≡ Err Stop.OutOfSteps → work.new.counter.used ≡ work.new.counter.limit }
 {
@@ -107,6 +110,7 @@ fn scheme_falling(
     requires ready { IsReady (events_at work.old.bank history.now) }
     requires opened { All (IsOpenedIn history.now work.old) opened.items }
     ensures scheme { IfOk result (λ found. IfSome found (IsSchemeIn history.now work.new)) }
+    ensures cases { IfOk result (λ found. IfSome found HasCases) }
     ensures grows { WorkGrows history.now work.old work.new }
     ensures out { result ≡ Err Stop.OutOfSteps → work.new.counter.used ≡ work.new.counter.limit }
 {
@@ -128,6 +132,7 @@ fn scheme_at(
     requires ready { IsReady (events_at work.old.bank history.now) }
     requires opened { All (IsOpenedIn history.now work.old) opened.items }
     ensures scheme { IfOk result (λ found. IfSome found (IsSchemeIn history.now work.new)) }
+    ensures cases { IfOk result (λ found. IfSome found HasCases) }
     ensures grows { WorkGrows history.now work.old work.new }
     ensures out { result ≡ Err Stop.OutOfSteps → work.new.counter.used ≡ work.new.counter.limit }
 {
@@ -185,6 +190,7 @@ fn scheme_of_place(
     requires ready { IsReady (events_at work.old.bank history.now) }
     requires opened { All (IsOpenedIn history.now work.old) opened.items }
     ensures scheme { IfOk result (λ found. IfSome found (IsSchemeIn history.now work.new)) }
+    ensures cases { IfOk result (λ found. IfSome found HasCases) }
     ensures grows { WorkGrows history.now work.old work.new }
     ensures out { result ≡ Err Stop.OutOfSteps → work.new.counter.used ≡ work.new.counter.limit }
 {
@@ -207,6 +213,7 @@ fn scheme_of_calls(
     requires ready { IsReady (events_at work.old.bank history.now) }
     requires goal { All (IsTermIn history.now work.old) goal.now }
     ensures scheme { IfOk result (λ found. IfSome found (IsSchemeIn history.now work.new)) }
+    ensures cases { IfOk result (λ found. IfSome found HasCases) }
     ensures grows { WorkGrows history.now work.old work.new }
     ensures out { result ≡ Err Stop.OutOfSteps → work.new.counter.used ≡ work.new.counter.limit }
 {
@@ -215,6 +222,29 @@ fn scheme_of_calls(
     let apart = drafts_at(work, history, opened.as_slice())?;
     let place = chosen(work, goal, &mut drafts, apart, turn)?;
     scheme_of_place(work, history, opened, drafts.as_slice(), place, arithmetic)
+}
+
+/// The scheme of this number among those that calls suggest; at the first turn there is one.
+fn scheme_suggested(
+    work: &mut Work,
+    history: &History,
+    goal: &[TermId],
+    calls: &[TermId],
+    turn: u32,
+    arithmetic: bool,
+) -> Result<Option<Scheme>, Stop>
+    requires stands { WorkStands history.now work.old }
+    requires ready { IsReady (events_at work.old.bank history.now) }
+    requires goal { All (IsTermIn history.now work.old) goal.now }
+    requires some { 0 < length goal.now }
+    ensures scheme { IfOk result (λ found. IfSome found (IsSchemeIn history.now work.new)) }
+    ensures cases { IfOk result (λ found. IfSome found HasCases) }
+    ensures told { turn ≡ 0 → IfOk result (λ found. found ≡ None → ⊥) }
+    ensures grows { WorkGrows history.now work.old work.new }
+    ensures out { result ≡ Err Stop.OutOfSteps → work.new.counter.used ≡ work.new.counter.limit }
+{
+    let found = scheme_of_calls(work, history, goal, calls, turn, arithmetic)?;
+    found_or_plain(work, history, goal, found, turn, arithmetic)
 }
 
 /// The calls of a goal that suggest a scheme.
@@ -232,6 +262,7 @@ fn is_suggested(work: &Work, history: &History, goal: &[TermId]) -> Result<bool,
     requires stands { WorkStands history.now work.now }
     requires goal { All (IsTermIn history.now work.now) goal.now }
     ensures none { IfOk result (λ b. NoneSuggestsIn history.now work.now.bank goal.now → b ≡ false) }
+    ensures some { IfOk result (λ b. b ≡ false → NoneSuggestsIn history.now work.now.bank goal.now) }
     ensures memory { result ≡ Err Stop.OutOfSteps → ⊥ }
 {
     match suggests_induction(&work.bank, history, goal) {
@@ -252,7 +283,9 @@ fn scheme_of_hint(
     requires ready { IsReady (events_at work.old.bank history.now) }
     requires hint { IsTermIn history.now work.old t }
     ensures scheme { IfOk result (λ found. IfSome found (IsSchemeIn history.now work.new)) }
+    ensures cases { IfOk result (λ found. IfSome found HasCases) }
     ensures none { NoneSuggestsIn history.now work.old.bank (t ∷ []) → IfOk result (λ found. found ≡ None) }
+    ensures told { turn ≡ 0 → IfOk result (λ found. found ≡ None → NoneSuggestsIn history.now work.old.bank (t ∷ [])) }
     ensures steps { NoneSuggestsIn history.now work.old.bank (t ∷ []) → result ≡ Err Stop.OutOfSteps → ⊥ }
     ensures same { NoneSuggestsIn history.now work.old.bank (t ∷ []) → work.new ≡ work.old }
     ensures grows { WorkGrows history.now work.old work.new }
@@ -262,7 +295,7 @@ fn scheme_of_hint(
     if !is_suggested(work, history, &calls)? {
         return Ok(None);
     }
-    scheme_of_calls(work, history, &calls, &calls, turn, arithmetic)
+    scheme_suggested(work, history, &calls, &calls, turn, arithmetic)
 }
 
 /// The scheme of this number among those that calls of the goal suggest.
@@ -277,22 +310,27 @@ fn scheme_of_goal(
     requires ready { IsReady (events_at work.old.bank history.now) }
     requires goal { All (IsTermIn history.now work.old) goal.now }
     ensures scheme { IfOk result (λ found. IfSome found (IsSchemeIn history.now work.new)) }
+    ensures cases { IfOk result (λ found. IfSome found HasCases) }
     ensures none { NoneSuggestsIn history.now work.old.bank goal.now → IfOk result (λ found. found ≡ None) }
+    ensures told { turn ≡ 0 → IfOk result (λ found. found ≡ None → NoneSuggestsIn history.now work.old.bank goal.now) }
     ensures steps { NoneSuggestsIn history.now work.old.bank goal.now → result ≡ Err Stop.OutOfSteps → ⊥ }
     ensures same { NoneSuggestsIn history.now work.old.bank goal.now → work.new ≡ work.old }
     ensures grows { WorkGrows history.now work.old work.new }
     ensures out { result ≡ Err Stop.OutOfSteps → work.new.counter.used ≡ work.new.counter.limit }
 {
+    if goal.is_empty() {
+        return Ok(None);
+    }
     if !is_suggested(work, history, goal)? {
         return Ok(None);
     }
     let calls = calls_of(work, history, goal)?;
-    scheme_of_calls(work, history, goal, calls.as_slice(), turn, arithmetic)
+    scheme_suggested(work, history, goal, calls.as_slice(), turn, arithmetic)
 }
 
 /// The scheme of this number, the best being that of number 0, among those that calls of the goal suggest, or that the term of a hint
-/// suggests. There is none where there are no more. Where no call suggests one there is none, no step is counted, and the work is left
-/// as it was. That the measure falls may be shown by linear arithmetic, where that is wanted.
+/// suggests. There is none where there are no more. Of number 0 there is none exactly where no call suggests one. Then no step is counted,
+/// and the work is left as it was. That the measure falls may be shown by linear arithmetic, where that is wanted.
 pub fn scheme_of(
     work: &mut Work,
     history: &History,
@@ -306,7 +344,9 @@ pub fn scheme_of(
     requires goal { All (IsTermIn history.now work.old) goal.now }
     requires hint { IfSome hint (IsTermIn history.now work.old) }
     ensures scheme { IfOk result (λ found. IfSome found (IsSchemeIn history.now work.new)) }
+    ensures cases { IfOk result (λ found. IfSome found HasCases) }
     ensures none { NoneSuggests history.now work.old.bank goal.now hint → IfOk result (λ found. found ≡ None) }
+    ensures told { turn ≡ 0 → IfOk result (λ found. found ≡ None → NoneSuggests history.now work.old.bank goal.now hint) }
     ensures steps { NoneSuggests history.now work.old.bank goal.now hint → result ≡ Err Stop.OutOfSteps → ⊥ }
     ensures same { NoneSuggests history.now work.old.bank goal.now hint → work.new ≡ work.old }
     ensures grows { WorkGrows history.now work.old work.new }

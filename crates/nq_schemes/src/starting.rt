@@ -23,7 +23,7 @@ use nq_rule::InductionStep;
 use std::alloc::Global;
 
 /// Makes that one measure is below another.
-fn below(work: &mut Work, history: &History, t: TermId, u: TermId) -> Result<TermId, Stop>
+pub fn below(work: &mut Work, history: &History, t: TermId, u: TermId) -> Result<TermId, Stop>
     requires stands { WorkStands history.now work.old }
     requires left { IsTermIn history.now work.old t }
     requires right { IsTermIn history.now work.old u }

@@ -17,6 +17,9 @@ use std::test::Fail;
 const PAIRS: &[u8] =
     b"(ADD-SHELL PAIR NIL PAIRP ((FIRST (ONE-OF STACKP NUMBERP) EMPTY-STACK) (SECOND (NONE-OF LISTP) ZERO)))\n";
 
+const FLAGS: &[u8] =
+    b"(ADD-SHELL FLAG NIL FLAGP ((UP (ONE-OF FALSEP TRUEP FLAGP) TRUE) (DOWN (NONE-OF NUMBERP TRUEP LISTP) FALSE)))\n";
+
 /// How many entries were learnt, how many lemmas were tried, and where the bank ended when the last entry was learnt.
 #[derive(Drop)]
 struct CountingProver {
@@ -126,13 +129,16 @@ fn a_prover_learns_just_the_entries_that_stand(rt: HostRuntime) -> Result<(), Fa
 }
 
 #[test]
-fn what_is_structural_by_a_covered_shell_asks_no_prover(rt: HostRuntime) -> Result<(), Fail> {
+fn what_is_structural_by_users_shells_asks_no_prover(rt: HostRuntime) -> Result<(), Fail> {
     for body in [
         // by a shell with a base, each part of which has a restriction with a base for its default
         b"(IF (STACKP X) (IF (EQUAL X (EMPTY-STACK)) 0 (PLUS (H (TOP X)) (H (POP X)))) 0)".as_slice(),
         b"(IF (EQUAL (EMPTY-STACK) X) 0 (IF (STACKP X) (H (POP X)) 0))",
         // by one without a base
         b"(IF (PAIRP X) (PLUS (H (FIRST X)) (H (SECOND X))) 0)",
+        // by one whose restricted parts have T or F for their defaults
+        b"(IF (FLAGP X) (PLUS (H (UP X)) (H (DOWN X))) 0)",
+        b"(IF (FLAGP X) (IF (FLAGP (UP X)) (H (DOWN (UP X))) T) F)",
         // by another shell at each call
         b"(IF (LISTP X) (H (CDR X)) (IF (PAIRP X) (H (SECOND X)) 0))",
         // by nests, with a test at each level
@@ -140,10 +146,13 @@ fn what_is_structural_by_a_covered_shell_asks_no_prover(rt: HostRuntime) -> Resu
         // under a test that calls the function
         b"(IF (PAIRP X) (IF (H (FIRST X)) (H (SECOND X)) 0) X)",
     ] {
-        let forms = joined(rt.alloc(), &[STACKS, PAIRS, b"(DEFN H (X) ", body, b")"])?;
+        let forms = joined(
+            rt.alloc(),
+            &[STACKS, PAIRS, FLAGS, b"(DEFN H (X) ", body, b")"],
+        )?;
         let (prover, ended) = after_forms(rt.alloc(), forms.as_slice(), 0)?;
         assert!(rt; ended);
-        assert_eq!(rt; prover.learnt, GROUND_LENGTH as u64 + 3);
+        assert_eq!(rt; prover.learnt, GROUND_LENGTH as u64 + 4);
         assert_eq!(rt; prover.tried, 0);
     }
     Ok(())

@@ -1,32 +1,5 @@
-use Rattle.std.proofs.Common.{subst}
-use Rattle.std.specs.Prelude.{IfSome}
-use Rattle.nq_kernel.specs.Growing.{LineStands}
-use Rattle.nq_kernel.proofs.GrowingLemmas.{WorkGrows-refl, WorkGrows-trans}
-use Rattle.nq_lines.proofs.FactLemmas.{own_terms_grown}
-use Rattle.nq_lines.specs.Lines.{LineHasOnly}
-use Rattle.nq_arithmetic.proofs.Lemmas.{all_grown, goal_same, found_of, instances_grown}
+use Rattle.nq_kernel.proofs.GrowingLemmas.{WorkGrows-refl}
 use Rattle.nq_arithmetic.proofs.arithmetic.arithmetic_line_by_lemmas.Goals as goal
 
 pub returns-then-hints-clause-grows : goal.returns-then-hints-clause-grows
 returns-then-hints-clause-grows c = WorkGrows-refl c.args.history.now c.args.work.now c.requires.stands
-
-pub by_lemmas-requires-clause-goal : goal.by_lemmas-requires-clause-goal
-by_lemmas-requires-clause-goal c = all_grown c.args.history.now c.args.work.now c.refuted.new.work c.requires.stands c.refuted.ensures.grows c.args.goal.now c.requires.goal
-
-pub by_lemmas-requires-clause-ready : goal.by_lemmas-requires-clause-ready
-by_lemmas-requires-clause-ready c = own_terms_grown c.args.history.now c.args.work.now c.refuted.new.work c.refuted.ensures.grows c.requires.stands c.requires.ready
-
-pub by_lemmas-requires-clause-told : goal.by_lemmas-requires-clause-told
-by_lemmas-requires-clause-told c = instances_grown c.args.history.now c.args.work.now c.refuted.new.work c.requires.stands c.refuted.ensures.grows c.args.told.now c.requires.told
-
-pub returns-in-None-clause-line : goal.returns-in-None-clause-line
-returns-in-None-clause-line c = found_of c.by_lemmas.result c.by_lemmas.new.work _ _ (goal_same c.args.history.now c.args.work.now c.refuted.new.work c.requires.stands c.refuted.ensures.grows c.args.goal.now c.requires.goal) c.by_lemmas.ensures.line
-
-pub returns-in-None-clause-grows : goal.returns-in-None-clause-grows
-returns-in-None-clause-grows c = WorkGrows-trans c.args.history.now c.args.work.now c.refuted.new.work c.by_lemmas.new.work c.refuted.ensures.grows c.by_lemmas.ensures.grows
-
-pub checked-requires-clause-line : goal.checked-requires-clause-line
-checked-requires-clause-line c = subst (λ o. IfSome o (λ n. LineStands c.refuted.new.work n)) c.in-Some.is c.in_ok-line.ensures.line
-
-pub returns-in-Some-clause-line : goal.returns-in-Some-clause-line
-returns-in-Some-clause-line c = subst (λ ts. IfSome c.checked.result (λ n. LineHasOnly c.refuted.new.work n ts)) (goal_same c.args.history.now c.args.work.now c.refuted.new.work c.requires.stands c.refuted.ensures.grows c.args.goal.now c.requires.goal) c.checked.ensures

@@ -12,3 +12,6 @@ returns-clause-basis c = record {
   ready = ready_grown c.args.history.now c.args.work.now c.known_truth.new.work c.requires.stands c.known_truth.ensures.grows c.requires.ready;
   own = own_terms_grown c.args.history.now c.args.work.now c.known_truth.new.work c.known_truth.ensures.grows c.requires.stands (c.own_terms.ensures c.args.work.now.bank c.args.history.now c.requires.ready);
 }
+
+pub returns-clause-grows : goal.returns-clause-grows
+returns-clause-grows c = c.known_truth.ensures.grows

@@ -45,7 +45,7 @@ pub accepted-requires-clause-ready : goal.accepted-requires-clause-ready
 accepted-requires-clause-ready g c =
     let bank = c.args.self.bank in
     let h = history_of c.args.self in
-    subst (λ s. IsReadyEvent h (logic.AddShell (shell_at bank s))) (sym c.in_ok-block.ensures.same) (shell_ready h (shell_at bank c.args.shell) c.requires.lawful)
+    subst (λ s. IsReadyEvent h (logic.AddShell (shell_at bank s))) (sym c.in_ok-block.ensures.same) (shell_ready h (shell_at bank c.args.shell) c.requires.lawful c.requires.spelled)
 
 pub returns-clause-taken : goal.returns-clause-taken
 returns-clause-taken g c =

@@ -1,3 +1,0 @@
-pub mod Covered
-pub mod Definitions
-pub mod Laws
